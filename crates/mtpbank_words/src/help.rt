@@ -76,8 +76,8 @@ line opens the end, and each other asks for one thing, mostly of link L:
   noanswer, timed, restore, redeclare, backtimeout, test
                           what Q.704's timers tell the set
   activate, deactivate    level 3 starts the link, restores it, changes it back
-  look                    how the link stands
-  checkpoint, history     what the set was asked goes out, or is shown
+  look, history           how the link stands; what the set was asked
+  checkpoint, forget      that goes out, once or behind each so many turns
 An octet in and an octet out is a turn, and a turn is all the time there is.
 `mtpbank terminal --help` says how each line is written, what it prints, and how
 a line is driven. Try `mtpbank terminal < examples/terminal/start.terminal`.";
@@ -124,6 +124,8 @@ Each further line prints events and then its answer, so whoever drives the end r
                       at the set (settled, up or left); turns and units from the beginning on; the last cause, or 0
   checkpoint [quiet]  what is finished leaves the set: the entries of its history that go, checkpoint, and done; with
                       quiet done alone
+  forget N [told]     from now on a checkpoint behind each N turns of all links together, 0 to 2^32-1; 0: none any more.
+                      done; nothing is printed for such a checkpoint, or with told the entries that go, and checkpoint
   history             the entries of its history since the last checkpoint, and done
 What stands on a line is bits, of each octet the lowest first. A turn is taken for each eight, and fewer than eight wait
 for the next line of this link. The events; T counts the link's turns from 1:
@@ -135,11 +137,13 @@ for the next line of this link. The events; T counts the link's turns from 1:
                       behind this turn level 3 asked so of link L: start, emergency or stop, which its terminal obeys in
                       the next one, or an event of the set, with the answer, done or refused N
   sent L UNIT [xN]    this unit was appended to what goes out, N times in a row; with hear, flags and bits alone
-In a turn messages come first, then the WORD, then what level 3 asked, then the unit. The causes: 1 error rate, 2 BSN,
+In a turn messages come first, then the WORD, then what level 3 asked, then the unit; and behind the turn what goes with
+a checkpoint that forget told, before the next turn of the line. So with told lines that begin with user, terminal or
+checkpoint are events too. The causes: 1 error rate, 2 BSN,
 3 FIB, 4 T1, 5 T6, 6 T7, 7 a status that was heard, 8 alignment not possible, 9 stop, or a changeover order about a
 link that isn't up yet: the far end was up there, and has left it. Last comes `end a ..`, as `mtpbank play` prints it.
-The set line and the lines of history and checkpoint one behind another are the history that `mtpbank audit` reads, where
-no checkpoint was quiet.
+The set line and the lines of history and checkpoints one behind another are the history that `mtpbank audit` reads,
+where no checkpoint was quiet, and each of forget told.
 The SLC of an order is the link's number. To close an end so that the far end hears that its links are out of service
 (SIOS) write stop L for each link, then two blocks of octets, then end the input.
 To drive a real line read a block of octets from the timeslot, write it as octets, and write the answer to the timeslot:

@@ -1,5 +1,5 @@
 -- What came on a line, piece by piece.
-use Rattle.std.proofs.Common.{refl, sym, ap, subst, arith, ◌≡◌, ◌∙◌, ◌<◌, ℕ, ◌+◌, Bool, List, [], ◌∷◌, ◌++◌, length, length-append, map, append_assoc, append-nil, Option, None, Some}
+use Rattle.std.proofs.Common.{refl, sym, ap, subst, arith, ◌≡◌, ◌∙◌, ◌<◌, ℕ, suc, ◌+◌, ◌&&◌, Bool, true, false, List, [], ◌∷◌, ◌++◌, length, length-append, map, append_assoc, append-nil, Option, None, Some}
 use Rattle.std.proofs.lemmas.List.{length-map}
 use Rattle.l2_bits.proofs.BitLemmas.{length-bits_of}
 use Rattle.std.proofs.Common.{ap₂, add-one, get_or, take, Result, Ok, Err, OnOk}
@@ -12,8 +12,10 @@ use Rattle.l2_bits.specs.Stuffing.{AppendsText, text_after}
 use Rattle.link_term.specs.Filling.{Taps}
 use Rattle.link_term.specs.declared.tap.LastUnit.{LastUnit}
 use Rattle.std.specs.Option.{option_to_list}
+use Rattle.set_events.specs.declared.history.Entry.{Entry}
 use Rattle.term_managed.specs.Ends.{ManagedState}
-use Rattle.term_managed.specs.Turns.{HeardTurn, Hears as HearsTurn, HearsBit, HearsPiece, HearsPieces, TurnAndDeeds, Waits}
+use Rattle.terminal_text.specs.declared.forgetting.Forgetting.{Forgetting}
+use Rattle.term_managed.specs.Turns.{HeardTurn, Hears as HearsTurn, HearsBit, HearsPiece, TurnAndDeeds, Waits}
 use Rattle.text_base.specs.Figures.{hex_text}
 use Rattle.l2_bits.specs.LineBits.{bits_of, line_bits}
 use Rattle.l2_units.specs.declared.unit.Unit.{Unit as SignalUnit}
@@ -21,104 +23,167 @@ use Rattle.terminal_text.proofs.RowLemmas.{shows_more, shows_nothing}
 use Rattle.terminal_text.specs.Answers.{AsManyGoOut, Exchanges, HearsLine, one_by_one, unit_bits}
 use Rattle.terminal_text.specs.Hearing.{Exchanging, Hears}
 use Rattle.terminal_text.specs.Rows.{Shows, left_of}
-use Rattle.terminal_text.specs.Showing.{over, shown, without_unit}
+use Rattle.terminal_text.specs.Forgetting.{HearsEach, HearsOne, IsForgotten, forgotten, gone_behind, gone_by, is_due, shown_of}
+use Rattle.terminal_text.specs.Showing.{Shown, gone, over, shown, turned, turns_among, without_unit}
+use Rattle.terminal_text.specs.declared.forgetting.ForgettingBench.{ForgettingBench}
 use Rattle.terminal_text.specs.declared.hearing.Hearing.{Hearing}
 use Rattle.terminal_text.specs.declared.rows.Rows.{Rows}
 use Rattle.std.specs.Prelude.{codes, decimal}
 
 -- Pieces behind pieces.
 
-pub pieces_more : (link : ℕ) (xs ys : List (List Bool)) (old mid new : ManagedState) (a b : List HeardTurn)
-    → HearsPieces link xs old a mid → HearsPieces link ys mid b new → HearsPieces link (xs ++ ys) old (a ++ b) new
+pub pieces_more : (link : ℕ) (xs ys : List (List Bool)) (old mid new : ForgettingBench) (a b : List Shown)
+    → HearsEach link xs old a mid → HearsEach link ys mid b new → HearsEach link (xs ++ ys) old (a ++ b) new
 pieces_more link [] ys old mid new a b f g =
-    subst (λ (ts : List HeardTurn). HearsPieces link ys old (ts ++ b) new) (sym f.0)
-    (subst (λ (s : ManagedState). HearsPieces link ys s b new) f.1 g)
+    subst (λ (ts : List Shown). HearsEach link ys old (ts ++ b) new) (sym f.0)
+    (subst (λ (s : ForgettingBench). HearsEach link ys s b new) f.1 g)
 pieces_more link (bits ∷ xs) ys old mid new a b f g = (
   f.0,
   f.1,
   f.2 ++ b,
   f.3,
   pieces_more link xs ys f.0 mid new f.2 b f.4 g,
-  ap (λ (ts : List HeardTurn). ts ++ b) f.5 ∙ append_assoc (option_to_list f.1) f.2 b,
+  ap (λ (ts : List Shown). ts ++ b) f.5 ∙ append_assoc f.1 f.2 b,
 )
+
+-- one piece is all
+one_is_each : (link : ℕ) (bits : List Bool) (old : ForgettingBench) (items : List Shown) (new : ForgettingBench)
+    → HearsOne link bits old items new → HearsEach link (bits ∷ []) old items new
+one_is_each link bits old items new one = (new, items, [], one, (refl, refl), sym (append-nil items))
+
+-- a turn, and what is behind it
+turn_is_one : (link : ℕ) (bits : List Bool) (old between new : ForgettingBench) (turn : TurnAndDeeds) (unit : Option SignalUnit)
+    → HearsTurn link bits old.managed turn unit between.managed → between.plan ≡ old.plan → new ≡ forgotten between
+    → HearsOne link bits old (turned (record { turn = turn; unit = unit }) ∷ gone_behind between) new
+turn_is_one link bits old between new turn unit hears plan is = record {
+  one = Some (record { turn = turn; unit = unit });
+  between = between.managed;
+  hears = hears;
+  items_are = ap (λ (p : Forgetting). turned (record { turn = turn; unit = unit })
+      ∷ gone_behind (record { managed = between.managed; plan = p })) plan;
+  new_is = is ∙ ap (λ (p : Forgetting). forgotten (record { managed = between.managed; plan = p })) plan;
+}
+
+-- what a checkpoint leaves to show has no turn, and no unit
+none_by : (b : Bool) (history : List Entry) → turns_among (gone_by b history) ≡ []
+none_by true history = refl
+none_by false history = refl
+
+same_by : (b : Bool) (history : List Entry) → map without_unit (gone_by b history) ≡ gone_by b history
+same_by true history = refl
+same_by false history = refl
+
+none_behind : (s : ForgettingBench) → turns_among (gone_behind s) ≡ []
+none_behind s = none_by (is_due s.plan && s.plan.told) s.managed.bench.set.history
+
+same_behind : (s : ForgettingBench) → map without_unit (gone_behind s) ≡ gone_behind s
+same_behind s = same_by (is_due s.plan && s.plan.told) s.managed.bench.set.history
+
+turns_more : (a b : List Shown) → turns_among (a ++ b) ≡ turns_among a ++ turns_among b
+turns_more [] b = refl
+turns_more (turned heard ∷ a) b = ap (λ (hs : List HeardTurn). heard ∷ hs) (turns_more a b)
+turns_more (gone lines ∷ a) b = turns_more a b
+
+abbrev puts : List HeardTurn → List ℕ
+puts turns = map (λ h. h.turn.turn.put) turns
 
 -- Octets.
 
-pub exchanging_none : (link : ℕ) (bench : ManagedState) (rows : Rows) (put : List ℕ) → Exchanging link [] bench bench rows rows put put
+pub exchanging_none : (link : ℕ) (bench : ForgettingBench) (rows : Rows) (put : List ℕ) → Exchanging link [] bench bench rows rows put put
 exchanging_none link bench rows put = record {
-  heard = [];
+  items = [];
   hears = (refl, refl);
   shows = shows_nothing rows;
   put_is = sym (append-nil put);
   links = refl;
 }
 
-pub exchanging_more : (link : ℕ) (xs ys : List (List Bool)) (old mid new : ManagedState) (a b c : Rows) (p q r : List ℕ)
+pub exchanging_more : (link : ℕ) (xs ys : List (List Bool)) (old mid new : ForgettingBench) (a b c : Rows) (p q r : List ℕ)
     → Exchanging link xs old mid a b p q → Exchanging link ys mid new b c q r → Exchanging link (xs ++ ys) old new a c p r
 exchanging_more link xs ys old mid new a b c p q r f g = record {
-  heard = f.heard ++ g.heard;
-  hears = pieces_more link xs ys old mid new f.heard g.heard f.hears g.hears;
-  shows = subst (λ (hs : List HeardTurn). Shows a hs c) (sym (map-append without_unit f.heard g.heard))
-      (shows_more a b c (map without_unit f.heard) (map without_unit g.heard) f.shows g.shows);
-  put_is = g.put_is ∙ ap (λ (xs : List ℕ). xs ++ map (λ h. h.turn.turn.put) g.heard) f.put_is
-      ∙ append_assoc p (map (λ h. h.turn.turn.put) f.heard) (map (λ h. h.turn.turn.put) g.heard)
-      ∙ ap (λ (xs : List ℕ). p ++ xs) (sym (map-append (λ (h : HeardTurn). h.turn.turn.put) f.heard g.heard));
+  items = f.items ++ g.items;
+  hears = pieces_more link xs ys old mid new f.items g.items f.hears g.hears;
+  shows = subst (λ (hs : List Shown). Shows a hs c) (sym (map-append without_unit f.items g.items))
+      (shows_more a b c (map without_unit f.items) (map without_unit g.items) f.shows g.shows);
+  put_is = g.put_is ∙ ap (λ (xs : List ℕ). xs ++ puts (turns_among g.items)) f.put_is
+      ∙ append_assoc p (puts (turns_among f.items)) (puts (turns_among g.items))
+      ∙ ap (λ (xs : List ℕ). p ++ xs) (sym (map-append (λ (h : HeardTurn). h.turn.turn.put) (turns_among f.items) (turns_among g.items)))
+      ∙ ap (λ (hs : List HeardTurn). p ++ puts hs) (sym (turns_more f.items g.items));
   links = g.links ∙ f.links;
 }
 
-pub octet_exchanged : (link octet : ℕ) (old new : ManagedState) (rows rows' : Rows) (put put' : List ℕ) (turn : TurnAndDeeds) (unit : Option SignalUnit)
-    → HearsTurn link (bits_of 8 octet) old turn unit new → Shows rows (record { turn = turn; unit = None } ∷ []) rows'
-    → put' ≡ put ++ turn.turn.put ∷ [] → length new.bench.links ≡ length old.bench.links
+pub octet_exchanged : (link octet : ℕ) (old between new : ForgettingBench) (rows mid rows' : Rows) (put put' : List ℕ) (turn : TurnAndDeeds)
+    (unit : Option SignalUnit) → HearsTurn link (bits_of 8 octet) old.managed turn unit between.managed → between.plan ≡ old.plan
+    → Shows rows (turned (record { turn = turn; unit = None }) ∷ []) mid → put' ≡ put ++ turn.turn.put ∷ []
+    → length between.managed.bench.links ≡ length old.managed.bench.links → IsForgotten between new mid rows'
     → Exchanging link (bits_of 8 octet ∷ []) old new rows rows' put put'
-octet_exchanged link octet old new rows rows' put put' turn unit hears shows is links = record {
-  heard = record { turn = turn; unit = unit } ∷ [];
-  hears = (new, Some (record { turn = turn; unit = unit }), [], hears, (refl, refl), refl);
-  shows = shows;
-  put_is = is;
-  links = links;
+octet_exchanged link octet old between new rows mid rows' put put' turn unit hears plan shows is links forgets = record {
+  items = turned (record { turn = turn; unit = unit }) ∷ gone_behind between;
+  hears = one_is_each link (bits_of 8 octet) old _ new (turn_is_one link (bits_of 8 octet) old between new turn unit hears plan forgets.new_is);
+  shows = subst (λ (items : List Shown). Shows rows (turned (record { turn = turn; unit = None }) ∷ items) rows') (sym (same_behind between))
+      (shows_more rows mid rows' (turned (record { turn = turn; unit = None }) ∷ []) (gone_behind between) shows forgets.shows);
+  put_is = is ∙ ap (λ (hs : List HeardTurn). put ++ (turn.turn.put ∷ puts hs)) (sym (none_behind between));
+  links = forgets.links ∙ links;
 }
 
 -- Bits.
 
-pub hears_none : (link : ℕ) (bench : ManagedState) (hearing : Hearing) → Hears link [] bench bench hearing hearing
+pub hears_none : (link : ℕ) (bench : ForgettingBench) (hearing : Hearing) → Hears link [] bench bench hearing hearing
 hears_none link bench hearing = record {
-  heard = [];
+  items = [];
   hears = (refl, refl);
   shows = shows_nothing hearing.rows;
   turns_are = omega arith;
   links = refl;
 }
 
-pub hears_more : (link : ℕ) (xs ys : List (List Bool)) (old mid new : ManagedState) (a b c : Hearing)
+pub hears_more : (link : ℕ) (xs ys : List (List Bool)) (old mid new : ForgettingBench) (a b c : Hearing)
     → Hears link xs old mid a b → Hears link ys mid new b c → Hears link (xs ++ ys) old new a c
 hears_more link xs ys old mid new a b c f g = record {
-  heard = f.heard ++ g.heard;
-  hears = pieces_more link xs ys old mid new f.heard g.heard f.hears g.hears;
-  shows = shows_more a.rows b.rows c.rows f.heard g.heard f.shows g.shows;
-  turns_are = omega (arith, f.turns_are, g.turns_are, length-append f.heard g.heard);
+  items = f.items ++ g.items;
+  hears = pieces_more link xs ys old mid new f.items g.items f.hears g.hears;
+  shows = shows_more a.rows b.rows c.rows f.items g.items f.shows g.shows;
+  turns_are = omega (
+    arith,
+    f.turns_are,
+    g.turns_are,
+    ap (λ (hs : List HeardTurn). length hs) (turns_more f.items g.items),
+    length-append (turns_among f.items) (turns_among g.items),
+  );
   links = g.links ∙ f.links;
 }
 
-pub bit_waits : (link : ℕ) (bit : Bool) (old new : ManagedState) (was now : Hearing) → Waits link (bit ∷ []) old new
-    → now.rows ≡ was.rows → now.turns ≡ was.turns → length new.bench.links ≡ length old.bench.links
-    → Hears link ((bit ∷ []) ∷ []) old new was now
-bit_waits link bit old new was now waits rows turns links = record {
-  heard = [];
-  hears = (new, None, [], waits, (refl, refl), refl);
+pub bit_waits : (link : ℕ) (bit : Bool) (old new : ForgettingBench) (was now : Hearing) → Waits link (bit ∷ []) old.managed new.managed
+    → new.plan ≡ old.plan → now.rows ≡ was.rows → now.turns ≡ was.turns
+    → length new.managed.bench.links ≡ length old.managed.bench.links → Hears link ((bit ∷ []) ∷ []) old new was now
+bit_waits link bit old new was now waits plan rows turns links = record {
+  items = [];
+  hears = one_is_each link (bit ∷ []) old [] new (record {
+    one = None;
+    between = new.managed;
+    hears = waits;
+    items_are = refl;
+    new_is = ap (λ (p : Forgetting). driven p) plan;
+  });
   shows = subst (λ (r : Rows). Shows was.rows [] r) (sym rows) (shows_nothing was.rows);
   turns_are = omega (arith, turns);
   links = links;
 }
+  where
+    driven : Forgetting → ForgettingBench
+    driven p = record { managed = new.managed; plan = p }
 
-pub bit_turns : (link : ℕ) (bit : Bool) (old new : ManagedState) (was now : Hearing) (turn : TurnAndDeeds) (unit : Option SignalUnit)
-    → HearsTurn link (bit ∷ []) old turn unit new → Shows was.rows (record { turn = turn; unit = unit } ∷ []) now.rows
-    → now.turns ≡ was.turns + 1 → length new.bench.links ≡ length old.bench.links → Hears link ((bit ∷ []) ∷ []) old new was now
-bit_turns link bit old new was now turn unit hears shows turns links = record {
-  heard = record { turn = turn; unit = unit } ∷ [];
-  hears = (new, Some (record { turn = turn; unit = unit }), [], hears, (refl, refl), refl);
-  shows = shows;
-  turns_are = turns;
-  links = links;
+pub bit_turns : (link : ℕ) (bit : Bool) (old between new : ForgettingBench) (was now : Hearing) (mid : Rows) (turn : TurnAndDeeds)
+    (unit : Option SignalUnit) → HearsTurn link (bit ∷ []) old.managed turn unit between.managed → between.plan ≡ old.plan
+    → Shows was.rows (turned (record { turn = turn; unit = unit }) ∷ []) mid → now.turns ≡ was.turns + 1
+    → length between.managed.bench.links ≡ length old.managed.bench.links → IsForgotten between new mid now.rows
+    → Hears link ((bit ∷ []) ∷ []) old new was now
+bit_turns link bit old between new was now mid turn unit hears plan shows turns links forgets = record {
+  items = turned (record { turn = turn; unit = unit }) ∷ gone_behind between;
+  hears = one_is_each link (bit ∷ []) old _ new (turn_is_one link (bit ∷ []) old between new turn unit hears plan forgets.new_is);
+  shows = shows_more was.rows mid now.rows (turned (record { turn = turn; unit = unit }) ∷ []) (gone_behind between) shows forgets.shows;
+  turns_are = turns ∙ ap (λ (hs : List HeardTurn). was.turns + suc (length hs)) (sym (none_behind between));
+  links = forgets.links ∙ links;
 }
 
 -- the unit of a turn that appended none, and of one that did
@@ -129,43 +194,43 @@ none_sent sent (Some unit) is zero_is = absurd (omega (arith, is, zero_is))
 -- The end of a line.
 
 -- what is printed at last is what all turns show
-pub shown_whole : (link : ℕ) (first last : Rows) (heard : List HeardTurn) → first.link ≡ link → first.row ≡ None → first.text.items ≡ []
-    → Shows first heard last → last.text.items ++ left_of last.link last.row [] ≡ shown link heard
-shown_whole link first last heard at none empty shows =
+pub shown_whole : (link : ℕ) (first last : Rows) (items : List Shown) → first.link ≡ link → first.row ≡ None → first.text.items ≡ []
+    → Shows first items last → last.text.items ++ left_of last.link last.row [] ≡ shown link items
+shown_whole link first last items at none empty shows =
     ap (λ (xs : List ℕ). xs ++ left_of last.link last.row []) (shows.text_is ∙ ap (λ (xs : List ℕ). xs ++ shows.added) empty)
     ∙ ap (λ n. shows.added ++ left_of n last.row []) shows.link_is
     ∙ sym (shows.goes_on [])
-    ∙ ap (λ (hs : List HeardTurn). left_of first.link first.row hs) (append-nil heard)
-    ∙ ap (λ n. left_of n first.row heard) at
-    ∙ ap (λ r. left_of link r heard) none
+    ∙ ap (λ (hs : List Shown). left_of first.link first.row hs) (append-nil items)
+    ∙ ap (λ n. left_of n first.row items) at
+    ∙ ap (λ r. left_of link r items) none
 
-pub exchanged : (link : ℕ) (octets : List ℕ) (old new : ManagedState) (first last : Rows) (none put text : List ℕ) → first.link ≡ link
+pub exchanged : (link : ℕ) (octets : List ℕ) (old new : ForgettingBench) (first last : Rows) (none put text : List ℕ) → first.link ≡ link
     → first.row ≡ None → first.text.items ≡ [] → none ≡ []
     → Exchanging link (map (bits_of 8) octets) old new first last none put
     → text ≡ (last.text.items ++ left_of last.link last.row [])
     ++ (codes "octets " ++ (decimal link ++ (codes " " ++ (hex_text put ++ codes "\n"))))
     → Exchanges link octets old text new
 exchanged link octets old new first last none put text at row empty nothing e is = record {
-  heard = e.heard;
+  items = e.items;
   hears = e.hears;
   printed_is = is
       ∙ ap (λ (xs : List ℕ). xs ++ (codes "octets " ++ (decimal link ++ (codes " " ++ (hex_text put ++ codes "\n")))))
-      (shown_whole link first last (map without_unit e.heard) at row empty e.shows)
-      ∙ ap (λ (xs : List ℕ). shown link (map without_unit e.heard) ++ (codes "octets " ++ (decimal link ++ (codes " " ++ (hex_text xs ++ codes "\n")))))
-      (e.put_is ∙ ap (λ (xs : List ℕ). xs ++ map (λ h. h.turn.turn.put) e.heard) nothing);
+      (shown_whole link first last (map without_unit e.items) at row empty e.shows)
+      ∙ ap (λ (xs : List ℕ). shown link (map without_unit e.items) ++ (codes "octets " ++ (decimal link ++ (codes " " ++ (hex_text xs ++ codes "\n")))))
+      (e.put_is ∙ ap (λ (xs : List ℕ). xs ++ puts (turns_among e.items)) nothing);
 }
 
-pub line_heard : (link : ℕ) (bits : List Bool) (old new : ManagedState) (first last : Hearing) (turns : ℕ) (text : List ℕ)
+pub line_heard : (link : ℕ) (bits : List Bool) (old new : ForgettingBench) (first last : Hearing) (turns : ℕ) (text : List ℕ)
     → first.rows.link ≡ link → first.rows.row ≡ None → first.rows.text.items ≡ [] → first.turns ≡ 0
     → Hears link (one_by_one bits) old new first last → turns ≡ last.turns
     → text ≡ (last.rows.text.items ++ left_of last.rows.link last.rows.row []) ++ (codes "turns " ++ (decimal turns ++ codes "\n"))
     → HearsLine link bits old text new
 line_heard link bits old new first last turns text at row empty nothing h count is = record {
-  heard = h.heard;
+  items = h.items;
   hears = h.hears;
   printed_is = is
-      ∙ ap (λ (xs : List ℕ). xs ++ (codes "turns " ++ (decimal turns ++ codes "\n"))) (shown_whole link first.rows last.rows h.heard at row empty h.shows)
-      ∙ ap (λ n. shown link h.heard ++ (codes "turns " ++ (decimal n ++ codes "\n"))) (omega (arith, count, h.turns_are, nothing));
+      ∙ ap (λ (xs : List ℕ). xs ++ (codes "turns " ++ (decimal turns ++ codes "\n"))) (shown_whole link first.rows last.rows h.items at row empty h.shows)
+      ∙ ap (λ n. shown link h.items ++ (codes "turns " ++ (decimal n ++ codes "\n"))) (omega (arith, count, h.turns_are, nothing));
 }
 
 -- Lists so far.
@@ -220,46 +285,58 @@ bit_some found link bit old new turn tap tap' is hears =
     }
 
 -- a turn without a unit, and with one
-pub bit_quiet : (link : ℕ) (bit : Bool) (old new : ManagedState) (was now : Hearing) (turn : TurnAndDeeds) (tap' : LastUnit)
-    → BringsTurn link bit old new turn tap' → turn.turn.sent ≡ 0 → Shows was.rows (record { turn = turn; unit = None } ∷ []) now.rows
-    → now.turns ≡ was.turns + 1 → length new.bench.links ≡ length old.bench.links → Hears link ((bit ∷ []) ∷ []) old new was now
-bit_quiet link bit old new was now turn tap' brings none shows turns links =
-    bit_turns link bit old new was now turn brings.unit brings.hears
-    (subst (λ (u : Option SignalUnit). Shows was.rows (record { turn = turn; unit = u } ∷ []) now.rows)
+pub bit_quiet : (link : ℕ) (bit : Bool) (old between new : ForgettingBench) (was now : Hearing) (mid : Rows) (turn : TurnAndDeeds)
+    (tap' : LastUnit) → BringsTurn link bit old.managed between.managed turn tap' → between.plan ≡ old.plan → turn.turn.sent ≡ 0
+    → Shows was.rows (turned (record { turn = turn; unit = None }) ∷ []) mid → now.turns ≡ was.turns + 1
+    → length between.managed.bench.links ≡ length old.managed.bench.links → IsForgotten between new mid now.rows
+    → Hears link ((bit ∷ []) ∷ []) old new was now
+bit_quiet link bit old between new was now mid turn tap' brings plan none shows turns links forgets =
+    bit_turns link bit old between new was now mid turn brings.unit brings.hears plan
+    (subst (λ (u : Option SignalUnit). Shows was.rows (turned (record { turn = turn; unit = u }) ∷ []) mid)
     (sym (none_sent turn.turn.sent brings.unit brings.hears.hears.turns.takes.sent_is none)) shows)
-    turns links
+    turns links forgets
 
 same_as_told : (unit shown : Option SignalUnit) (sent : ℕ) → sent ≡ length (option_to_list unit) → 0 < sent
     → ((u : SignalUnit) → unit ≡ Some u → shown ≡ Some u) → shown ≡ unit
 same_as_told None shown sent is some told = absurd (omega (arith, is, some))
 same_as_told (Some unit) shown sent is some told = told unit refl
 
-pub bit_sent : (link : ℕ) (bit : Bool) (old new : ManagedState) (was now : Hearing) (turn : TurnAndDeeds) (tap' : LastUnit) (unit : Option SignalUnit)
-    → BringsTurn link bit old new turn tap' → 0 < turn.turn.sent → unit ≡ tap'.unit
-    → Shows was.rows (record { turn = turn; unit = unit } ∷ []) now.rows
-    → now.turns ≡ was.turns + 1 → length new.bench.links ≡ length old.bench.links → Hears link ((bit ∷ []) ∷ []) old new was now
-bit_sent link bit old new was now turn tap' unit brings some is shows turns links =
-    bit_turns link bit old new was now turn brings.unit brings.hears
-    (subst (λ (u : Option SignalUnit). Shows was.rows (record { turn = turn; unit = u } ∷ []) now.rows)
+pub bit_sent : (link : ℕ) (bit : Bool) (old between new : ForgettingBench) (was now : Hearing) (mid : Rows) (turn : TurnAndDeeds)
+    (tap' : LastUnit) (unit : Option SignalUnit) → BringsTurn link bit old.managed between.managed turn tap' → between.plan ≡ old.plan
+    → 0 < turn.turn.sent → unit ≡ tap'.unit → Shows was.rows (turned (record { turn = turn; unit = unit }) ∷ []) mid
+    → now.turns ≡ was.turns + 1 → length between.managed.bench.links ≡ length old.managed.bench.links
+    → IsForgotten between new mid now.rows → Hears link ((bit ∷ []) ∷ []) old new was now
+bit_sent link bit old between new was now mid turn tap' unit brings plan some is shows turns links forgets =
+    bit_turns link bit old between new was now mid turn brings.unit brings.hears plan
+    (subst (λ (u : Option SignalUnit). Shows was.rows (turned (record { turn = turn; unit = u }) ∷ []) mid)
     (same_as_told brings.unit unit turn.turn.sent brings.hears.hears.turns.takes.sent_is some (λ u h. is ∙ brings.told u h)) shows)
-    turns links
+    turns links forgets
 
 -- As many octets go out as came.
 
-one_turn : (link octet : ℕ) (old new : ManagedState) (turn : Option HeardTurn) → HearsPiece link (bits_of 8 octet) old turn new
-    → length (option_to_list turn) ≡ 1
-one_turn link octet old new None waits =
-    absurd (omega (arith, waits.waits.few, length-append waits.waits.was.waiting (bits_of 8 octet), length-bits_of 8 octet))
-one_turn link octet old new (Some heard) hears = refl
+one_turn : (link octet : ℕ) (old : ForgettingBench) (items : List Shown) (new : ForgettingBench)
+    → HearsOne link (bits_of 8 octet) old items new → length (turns_among items) ≡ 1
+one_turn link octet old items new one = by one.one one.hears one.items_are
+  where
+    by : (found : Option HeardTurn) → HearsPiece link (bits_of 8 octet) old.managed found one.between
+        → items ≡ shown_of found (record { managed = one.between; plan = old.plan }) → length (turns_among items) ≡ 1
+    by None waits is =
+        absurd (omega (arith, waits.waits.few, length-append waits.waits.was.waiting (bits_of 8 octet), length-bits_of 8 octet))
+    by (Some heard) hears is =
+        ap (λ (xs : List Shown). length (turns_among xs)) is
+        ∙ ap (λ (hs : List HeardTurn). suc (length hs)) (none_behind (record { managed = one.between; plan = old.plan }))
 
-turn_each : (link : ℕ) (octets : List ℕ) (old new : ManagedState) (heard : List HeardTurn) → HearsPieces link (map (bits_of 8) octets) old heard new
-    → length heard ≡ length octets
-turn_each link [] old new heard hears = ap length hears.0
-turn_each link (octet ∷ octets) old new heard hears =
-    ap length hears.5 ∙ length-append (option_to_list hears.1) hears.2
-    ∙ ap₂ (λ m n. m + n) (one_turn link octet old hears.0 hears.1 hears.3) (turn_each link octets hears.0 new hears.2 hears.4)
+turn_each : (link : ℕ) (octets : List ℕ) (old new : ForgettingBench) (items : List Shown)
+    → HearsEach link (map (bits_of 8) octets) old items new → length (turns_among items) ≡ length octets
+turn_each link [] old new items hears = ap (λ (xs : List Shown). length (turns_among xs)) hears.0
+turn_each link (octet ∷ octets) old new items hears =
+    ap (λ (xs : List Shown). length (turns_among xs)) hears.5
+    ∙ ap (λ (hs : List HeardTurn). length hs) (turns_more hears.1 hears.2)
+    ∙ length-append (turns_among hears.1) (turns_among hears.2)
+    ∙ ap₂ (λ m n. m + n) (one_turn link octet old hears.1 hears.0 hears.3) (turn_each link octets hears.0 new hears.2 hears.4)
     ∙ omega arith
 
 pub as_many : AsManyGoOut
 as_many link octets old printed new exchanges =
-    length-map exchanges.heard (λ (h : HeardTurn). h.turn.turn.put) ∙ turn_each link octets old new exchanges.heard exchanges.hears
+    length-map (turns_among exchanges.items) (λ (h : HeardTurn). h.turn.turn.put)
+    ∙ turn_each link octets old new exchanges.items exchanges.hears

@@ -1,4 +1,5 @@
 pub mod RowLemmas
+pub mod ForgettingLemmas
 pub mod Standing
 pub mod HearingLemmas
 pub mod OpenLemmas

@@ -1,5 +1,5 @@
 -- The line that opens an end.
-use Rattle.std.proofs.Common.{refl, sym, ap, subst, arith, ◌≡◌, ◌∙◌, ◌<◌, ◌≤◌, nat_lt, ℕ, true, List, [], append-nil, length, Option, Some, Result, Ok, Err, MatchResult}
+use Rattle.std.proofs.Common.{refl, sym, ap, subst, arith, ◌≡◌, ◌∙◌, ◌<◌, ◌≤◌, nat_lt, ℕ, true, List, [], append-nil, Option, Some, Result, Ok, Err, MatchResult}
 use Rattle.std.proofs.lemmas.Bool.Decides.{nat_tests}
 use Rattle.std.specs.Option.{option_map}
 use Rattle.std.specs.Result.{result_map_both, result_ok}
@@ -25,7 +25,9 @@ use Rattle.text_forms.specs.Timers.{Lengths, timers_of}
 use Rattle.text_forms.specs.Times.{LinkTimes, times_of}
 use Rattle.text_forms.specs.declared.early.Early.{Early}
 use Rattle.terminal_text.specs.Answers.{asker, is_below, link_of_event}
-use Rattle.terminal_text.specs.Text.{IsOpenedAnew, MayFollow, MayOpen, MayOpenAs, MayRead, MayTime, Opens, TerminalOutcome, opened_bench, opened_end, settings_of, told_lengths, told_times, usual, usual_times}
+use Rattle.terminal_text.specs.Forgetting.{unasked}
+use Rattle.terminal_text.specs.declared.forgetting.ForgettingBench.{ForgettingBench}
+use Rattle.terminal_text.specs.Text.{IsOpenedAnew, MayFollow, MayOpen, MayOpenAs, MayRead, MayTime, Opens, TerminalOutcome, opened_bench, opened_end, settings_of, timed, told_lengths, told_times, usual, usual_times}
 use Rattle.terminal_text.specs.declared.fault.TerminalFault.{TerminalFault}
 use Rattle.terminal_text.specs.declared.open_end.End.{End as EndState}
 use Rattle.text_lines.specs.Talking.{IsCarriedOut, MayTell}
@@ -62,25 +64,25 @@ same_opened v config lengths times bench same made =
 pub opens_narrow : (n : ℕ) (line : List ℕ) (opening : Opening) (lengths : Timers) (times : Times) (bench : ManagedState)
     → IsOpening line opening → opening.a.profile ≡ Narrow → timers_of lengths ≡ usual → times_of times ≡ usual_times
     → bench ≡ new_managed opening.a lengths times
-    → MayOpen n line (first_line line) (prints [] (Some (record { bench = bench; early = Early.Both })))
+    → MayOpen n line (first_line line) (prints [] (Some (record { bench = unasked bench; early = Early.Both })))
 opens_narrow n line opening lengths times bench is narrow told set made =
     let v = is.values in
     let same = same_opened v opening.a lengths times bench (settings_are v opening.a is.made.end_a narrow) made in
-    subst (λ (found : Option Values). MayOpen n line found (prints [] (Some (record { bench = bench; early = Early.Both })))) (sym is.read)
-    (open_as v.profile n line v (prints [] (Some (record { bench = bench; early = Early.Both })))
+    subst (λ (found : Option Values). MayOpen n line found (prints [] (Some (record { bench = unasked bench; early = Early.Both })))) (sym is.read)
+    (open_as v.profile n line v (prints [] (Some (record { bench = unasked bench; early = Early.Both })))
     (sym is.made.end_a.profile_is ∙ narrow) (record {
       lengths = lengths;
       times = times;
       lengths_are = told;
       times_are = set;
-      outcome_is = ap (λ (b : ManagedState). prints [] (Some (record { bench = b; early = Early.Both }))) same;
+      outcome_is = ap (λ (b : ManagedState). prints [] (Some (record { bench = unasked b; early = Early.Both }))) same;
     }))
 
 -- The lines of lengths.
 
 pub timers_told : (result : Result (Unit {0}) (Stop TerminalFault)) (n : ℕ) (old new : EndState) (line out : List ℕ) (lengths : Timers)
     → told_lengths old.early line ≡ Some (timers_of lengths)
-    → MatchResult result (λ done. IsOpenedAnew lengths old.bench.bench.set.base.state.settings new) (λ stop. stop ≡ Memory)
+    → MatchResult result (λ done. IsOpenedAnew lengths old.bench.managed.bench.set.base.state.settings new) (λ stop. stop ≡ Memory)
     → IsCarriedOut result (MayRead n (Some old) line) out out (Some new)
 timers_told (Ok done) n old new line out lengths told made = record {
   printed = [];
@@ -110,7 +112,7 @@ times_found (Err blame) told is = ap (λ (r : Read LinkTimes). result_ok r) is
 
 pub opened_anew : (lengths : Timers) (times : Times) (settings : Settings) (config : SetConfig) (bench : ManagedState)
     → settings_in config ≡ settings → times_of times ≡ usual_times → bench ≡ new_managed config lengths times
-    → IsOpenedAnew lengths settings (record { bench = bench; early = Early.Times })
+    → IsOpenedAnew lengths settings (record { bench = unasked bench; early = Early.Times })
 opened_anew lengths times settings config bench same set made = record {
   times = times;
   times_are = set;
@@ -118,11 +120,11 @@ opened_anew lengths times settings config bench same set made = record {
 }
   where
     opened : ManagedState → EndState
-    opened b = record { bench = b; early = Early.Times }
+    opened b = record { bench = unasked b; early = Early.Times }
 
-pub times_told : (result : Result (Unit {0}) (Stop TerminalFault)) (n : ℕ) (early : Early) (old new : ManagedState) (line out : List ℕ)
+pub times_told : (result : Result (Unit {0}) (Stop TerminalFault)) (n : ℕ) (early : Early) (old new : ForgettingBench) (line out : List ℕ)
     (times : Times) → told_times early line ≡ Some (times_of times)
-    → MatchResult result (λ done. new ≡ opened_end old.bench (length old.bench.links) times) (λ stop. stop ≡ Memory)
+    → MatchResult result (λ done. new ≡ timed times old) (λ stop. stop ≡ Memory)
     → IsCarriedOut result (MayTime n line (told_times early line) old) out out (Some (record { bench = new; early = Early.Over }))
 times_told (Ok done) n early old new line out times told made = record {
   printed = [];
@@ -131,7 +133,7 @@ times_told (Ok done) n early old new line out times told made = record {
       (record {
         times = times;
         times_are = refl;
-        outcome_is = ap (λ (b : ManagedState). prints [] (Some (record { bench = b; early = Early.Over }))) made;
+        outcome_is = ap (λ (b : ForgettingBench). prints [] (Some (record { bench = b; early = Early.Over }))) made;
       });
 }
 times_told (Err stop) n early old new line out times told made =

@@ -5,7 +5,7 @@ use Rattle.std.specs.Result.{result_err, result_ok}
 use Rattle.std.specs.Str.{bytes_eq}
 use Rattle.l2_units.specs.declared.profile.Profile.{Profile}
 use Rattle.l2_units.specs.declared.profile.Profile.TheVariants.{Narrow, Wide}
-use Rattle.term_managed.specs.Ends.{ManagedState}
+use Rattle.terminal_text.specs.declared.forgetting.ForgettingBench.{ForgettingBench}
 use Rattle.text_forms.specs.declared.words.Blame.{Blame}
 use Rattle.text_forms.specs.Showing.{explanation}
 use Rattle.text_forms.specs.Asking.{asked_read, blamed_line}
@@ -27,14 +27,14 @@ use Rattle.text_lines.specs.Lines.{stops}
 use Rattle.terminal_text.specs.Reasons.{EveryFaultIsTold, EveryReasonIsSo, RefusedAsWide, RefusedForItsLink}
 
 -- a later line that can't be read tells no timers and asks for nothing
-module _ (n m : ℕ) (flaw : LineFlaw) (text : List ℕ) (old : ManagedState) where
+module _ (n m : ℕ) (flaw : LineFlaw) (text : List ℕ) (old : ForgettingBench) where
   asks_nothing_at : (there : Bool) (asked : Asked) → MayDoAt there n asked old (stops (Text m flaw)) → ⊥
   asks_nothing_at false asked e = absurd cc
   asks_nothing_at true asked d = absurd (let e = d.outcome_is in cc)
 
   asks_nothing : (found : Option Asked) → MayDo n text found old (stops (Text m flaw)) → is_some found ≡ false
   asks_nothing None may = refl
-  asks_nothing (Some asked) may = absurd (asks_nothing_at (is_below (length old.bench.links) (link_in asked)) asked may)
+  asks_nothing (Some asked) may = absurd (asks_nothing_at (is_below (length old.managed.bench.links) (link_in asked)) asked may)
 
   times_nothing : (told : Option LinkTimes) → MayTime n text told old (stops (Text m flaw)) → (is_some told ≡ false) × (is_some (asked_of text) ≡ false)
   times_nothing None may = (refl, asks_nothing (asked_of text) may)
@@ -109,21 +109,21 @@ opens : (n m : ℕ) (text : List ℕ) (found : Option Values) → MayOpen n text
 opens n m text None e = absurd cc
 opens n m text (Some v) o = opens_at n m text v v.profile o
 
-module _ (n m : ℕ) (text : List ℕ) (old : ManagedState) where
+module _ (n m : ℕ) (text : List ℕ) (old : ForgettingBench) where
   lacks_at : (there : Bool) (asked : Asked) → MayDoAt there n asked old (stops (Step m)) → there ≡ false
   lacks_at false asked e = refl
   lacks_at true asked d = absurd (let e = d.outcome_is in cc)
 
-  lacks : (found : Option Asked) → MayDo n text found old (stops (Step m)) → (asked : Asked) × (found ≡ Some asked) × (is_below (length old.bench.links) (link_in asked) ≡ false)
+  lacks : (found : Option Asked) → MayDo n text found old (stops (Step m)) → (asked : Asked) × (found ≡ Some asked) × (is_below (length old.managed.bench.links) (link_in asked) ≡ false)
   lacks None e = absurd cc
-  lacks (Some asked) may = (asked, refl, lacks_at (is_below (length old.bench.links) (link_in asked)) asked may)
+  lacks (Some asked) may = (asked, refl, lacks_at (is_below (length old.managed.bench.links) (link_in asked)) asked may)
 
-  times_out : (told : Option LinkTimes) → MayTime n text told old (stops (Step m)) → (asked : Asked) × (asked_of text ≡ Some asked) × (is_below (length old.bench.links) (link_in asked) ≡ false)
+  times_out : (told : Option LinkTimes) → MayTime n text told old (stops (Step m)) → (asked : Asked) × (asked_of text ≡ Some asked) × (is_below (length old.managed.bench.links) (link_in asked) ≡ false)
   times_out None may = lacks (asked_of text) may
   times_out (Some lengths) o = absurd (let e = o.outcome_is in cc)
 
   follows : (told : Option Lengths) (times : Option LinkTimes) → MayFollow n text told times old (stops (Step m))
-      → (asked : Asked) × (asked_of text ≡ Some asked) × (is_below (length old.bench.links) (link_in asked) ≡ false)
+      → (asked : Asked) × (asked_of text ≡ Some asked) × (is_below (length old.managed.bench.links) (link_in asked) ≡ false)
   follows None times may = times_out times may
   follows (Some lengths) times o = absurd (let e = o.outcome_is in cc)
 

@@ -7,7 +7,7 @@ use Rattle.term_managed.specs.declared.turn.Deed.{Deed}
 use Rattle.l2_units.specs.declared.unit.Unit.{Unit as SignalUnit}
 use Rattle.text_units.specs.UnitsText.{unit_words}
 use Rattle.terminal_text.specs.Rows.{AddsUnit, EndsRow, Shows, ShowsLines, ShowsTurn, left_behind, left_of, row_text}
-use Rattle.terminal_text.specs.Showing.{deeds_lines, is_quiet, is_silent, leading, leading_at, over, row_line, shown_behind, stays, turn_lines, unit_line, words_or}
+use Rattle.terminal_text.specs.Showing.{Shown, deeds_lines, gone, turned, is_quiet, is_silent, leading, leading_at, over, row_line, shown_behind, stays, turn_lines, unit_line, words_or}
 use Rattle.terminal_text.specs.declared.rows.Row.{Row}
 use Rattle.terminal_text.specs.declared.rows.Rows.{Rows}
 
@@ -33,23 +33,23 @@ silent_lines link turn h =
     ap (λ (xs : List ℕ). xs ++ deeds_lines link turn.turn.number turn.deeds) (no_lines turn.turn.messages (stays turn.turn) _ _ both.0)
     ∙ no_deeds link turn.turn.number turn.deeds both.1
 
-behind_turn : ℕ → Bool → Option (List ℕ) → List ℕ → Option SignalUnit → List HeardTurn → List ℕ
+behind_turn : ℕ → Bool → Option (List ℕ) → List ℕ → Option SignalUnit → List Shown → List ℕ
 behind_turn link silent before lines unit more =
     lines ++ (unit_line link (if silent then before else None) unit more ++ shown_behind link (words_or unit (if silent then before else None)) more)
 
-left_by : ℕ → Bool → Option Row → List ℕ → Option SignalUnit → List HeardTurn → List ℕ
+left_by : ℕ → Bool → Option Row → List ℕ → Option SignalUnit → List Shown → List ℕ
 left_by link silent None lines unit more = behind_turn link silent None lines unit more
 left_by link silent (Some row) lines unit more =
     row_line link row.words.items (row.times + (if silent then leading_at row.words.items unit (leading row.words.items more) else 0))
     ++ behind_turn link silent (Some row.words.items) lines unit more
 
-by_turn : (link : ℕ) (row : Option Row) (heard : HeardTurn) (more : List HeardTurn)
-    → left_of link row (heard ∷ more) ≡ left_by link (is_silent heard.turn) row (turn_lines link heard.turn) heard.unit more
+by_turn : (link : ℕ) (row : Option Row) (heard : HeardTurn) (more : List Shown)
+    → left_of link row (turned heard ∷ more) ≡ left_by link (is_silent heard.turn) row (turn_lines link heard.turn) heard.unit more
 unfolding left_by behind_turn
 by_turn link None heard more = refl
 by_turn link (Some row) heard more = refl
 
-by_silent : (link : ℕ) (silent : Bool) (row : Option Row) (lines : List ℕ) (unit : Option SignalUnit) (more : List HeardTurn)
+by_silent : (link : ℕ) (silent : Bool) (row : Option Row) (lines : List ℕ) (unit : Option SignalUnit) (more : List Shown)
     → silent ≡ true → lines ≡ [] → left_by link silent row lines unit more ≡ left_behind link row unit more
 unfolding left_by behind_turn
 by_silent link true None lines unit more h e = ap (λ (xs : List ℕ). xs ++ (unit_line link None unit more ++ shown_behind link (words_or unit None) more)) e
@@ -58,7 +58,7 @@ by_silent link true (Some row) lines unit more h e =
     ++ (xs ++ (unit_line link (Some row.words.items) unit more ++ shown_behind link (words_or unit (Some row.words.items)) more))) e
 by_silent link false row lines unit more h e = absurd cc
 
-by_loud : (link : ℕ) (silent : Bool) (row : Option Row) (lines : List ℕ) (unit : Option SignalUnit) (more : List HeardTurn)
+by_loud : (link : ℕ) (silent : Bool) (row : Option Row) (lines : List ℕ) (unit : Option SignalUnit) (more : List Shown)
     → silent ≡ false → left_by link silent row lines unit more ≡ row_text link row ++ (lines ++ left_behind link None unit more)
 unfolding left_by behind_turn
 by_loud link true row lines unit more h = absurd cc
@@ -68,7 +68,7 @@ by_loud link false (Some row) lines unit more h =
 
 -- a silent turn with its unit, and without one
 shows_unit : (old new : Rows) (turn : TurnAndDeeds) (unit : SignalUnit) → is_silent turn ≡ true → AddsUnit old unit new
-    → Shows old (record { turn = turn; unit = Some unit } ∷ []) new
+    → Shows old (turned (record { turn = turn; unit = Some unit }) ∷ []) new
 shows_unit old new turn unit h a = record {
   added = a.added;
   text_is = a.text_is;
@@ -79,11 +79,11 @@ shows_unit old new turn unit h a = record {
       ∙ a.goes_on more;
 }
 
-left_alone : (link : ℕ) (row : Option Row) (more : List HeardTurn) → left_behind link row None more ≡ left_of link row more
+left_alone : (link : ℕ) (row : Option Row) (more : List Shown) → left_behind link row None more ≡ left_of link row more
 left_alone link None more = refl
 left_alone link (Some row) more = refl
 
-shows_none : (old : Rows) (turn : TurnAndDeeds) → is_silent turn ≡ true → Shows old (record { turn = turn; unit = None } ∷ []) old
+shows_none : (old : Rows) (turn : TurnAndDeeds) → is_silent turn ≡ true → Shows old (turned (record { turn = turn; unit = None }) ∷ []) old
 shows_none old turn h = record {
   added = [];
   text_is = sym (append-nil old.text.items);
@@ -95,7 +95,7 @@ shows_none old turn h = record {
 }
 
 shows_loud_unit : (old mid new : Rows) (turn : TurnAndDeeds) (unit : SignalUnit) → is_silent turn ≡ false → ShowsLines old turn mid
-    → AddsUnit mid unit new → Shows old (record { turn = turn; unit = Some unit } ∷ []) new
+    → AddsUnit mid unit new → Shows old (turned (record { turn = turn; unit = Some unit }) ∷ []) new
 shows_loud_unit old mid new turn unit h lines a = record {
   added = (row_text old.link old.row ++ turn_lines old.link turn) ++ a.added;
   text_is = a.text_is ∙ ap (λ (xs : List ℕ). xs ++ a.added) lines.text_is
@@ -113,7 +113,7 @@ shows_loud_unit old mid new turn unit h lines a = record {
 }
 
 shows_loud : (old new : Rows) (turn : TurnAndDeeds) → is_silent turn ≡ false → ShowsLines old turn new
-    → Shows old (record { turn = turn; unit = None } ∷ []) new
+    → Shows old (turned (record { turn = turn; unit = None }) ∷ []) new
 shows_loud old new turn h lines = record {
   added = row_text old.link old.row ++ turn_lines old.link turn;
   text_is = lines.text_is;
@@ -127,22 +127,22 @@ shows_loud old new turn h lines = record {
 
 -- a turn, silent or not
 with_unit : (silent : Bool) (old mid new : Rows) (turn : TurnAndDeeds) (unit : SignalUnit) → is_silent turn ≡ silent → ShowsTurn old turn mid
-    → AddsUnit mid unit new → Shows old (record { turn = turn; unit = Some unit } ∷ []) new
+    → AddsUnit mid unit new → Shows old (turned (record { turn = turn; unit = Some unit }) ∷ []) new
 with_unit true old mid new turn unit h shows adds =
     shows_unit old new turn unit h (subst (λ (r : Rows). AddsUnit r unit new) (shows.silent h) adds)
 with_unit false old mid new turn unit h shows adds = shows_loud_unit old mid new turn unit h (shows.loud h) adds
 
 pub shows_with_unit : (old mid new : Rows) (turn : TurnAndDeeds) (unit : SignalUnit) → ShowsTurn old turn mid → AddsUnit mid unit new
-    → Shows old (record { turn = turn; unit = Some unit } ∷ []) new
+    → Shows old (turned (record { turn = turn; unit = Some unit }) ∷ []) new
 shows_with_unit old mid new turn unit shows adds = with_unit (is_silent turn) old mid new turn unit refl shows adds
 
 alone : (silent : Bool) (old new : Rows) (turn : TurnAndDeeds) → is_silent turn ≡ silent → ShowsTurn old turn new
-    → Shows old (record { turn = turn; unit = None } ∷ []) new
+    → Shows old (turned (record { turn = turn; unit = None }) ∷ []) new
 alone true old new turn h shows =
-    subst (λ (r : Rows). Shows old (record { turn = turn; unit = None } ∷ []) r) (sym (shows.silent h)) (shows_none old turn h)
+    subst (λ (r : Rows). Shows old (turned (record { turn = turn; unit = None }) ∷ []) r) (sym (shows.silent h)) (shows_none old turn h)
 alone false old new turn h shows = shows_loud old new turn h (shows.loud h)
 
-pub shows_alone : (old new : Rows) (turn : TurnAndDeeds) → ShowsTurn old turn new → Shows old (record { turn = turn; unit = None } ∷ []) new
+pub shows_alone : (old new : Rows) (turn : TurnAndDeeds) → ShowsTurn old turn new → Shows old (turned (record { turn = turn; unit = None }) ∷ []) new
 shows_alone old new turn shows = alone (is_silent turn) old new turn refl shows
 
 pub silent_turn : (rows : Rows) (turn : TurnAndDeeds) → is_silent turn ≡ true → ShowsTurn rows turn rows
@@ -153,7 +153,7 @@ loud_turn old new turn h lines = record { silent = λ s. let no : true ≡ false
 
 -- A unit.
 
-module _ (link : ℕ) (unit : SignalUnit) (more : List HeardTurn) where
+module _ (link : ℕ) (unit : SignalUnit) (more : List Shown) where
   -- in the row
   same_row : (same : Bool) (words : List ℕ) (times : ℕ) → same ≡ true → words ≡ unit_words unit
       → row_line link words (times + (if same then 1 + leading words more else 0))
@@ -190,7 +190,7 @@ unit_in_row old new unit row next was now same is words times text link = record
 }
 
 -- a row that has begun
-begun : (link : ℕ) (unit : SignalUnit) (new : Option Row) (next : Row) (more : List HeardTurn) → new ≡ Some next
+begun : (link : ℕ) (unit : SignalUnit) (new : Option Row) (next : Row) (more : List Shown) → new ≡ Some next
     → next.words.items ≡ unit_words unit → next.times ≡ 1
     → left_of link new more ≡ row_line link (unit_words unit) (1 + leading (unit_words unit) more) ++ shown_behind link (Some (unit_words unit)) more
 begun link unit new next more now words times =
@@ -234,15 +234,35 @@ left_at_end link (Some row) =
 pub shows_nothing : (rows : Rows) → Shows rows [] rows
 shows_nothing rows = record { added = []; text_is = sym (append-nil rows.text.items); link_is = refl; goes_on = λ more. refl }
 
-pub shows_more : (a b c : Rows) (xs ys : List HeardTurn) → Shows a xs b → Shows b ys c → Shows a (xs ++ ys) c
+pub shows_more : (a b c : Rows) (xs ys : List Shown) → Shows a xs b → Shows b ys c → Shows a (xs ++ ys) c
 shows_more a b c xs ys f g = record {
   added = f.added ++ g.added;
   text_is = g.text_is ∙ ap (λ (t : List ℕ). t ++ g.added) f.text_is ∙ append_assoc a.text.items f.added g.added;
   link_is = g.link_is ∙ f.link_is;
   goes_on = λ more.
-      ap (λ (all : List HeardTurn). left_of a.link a.row all) (append_assoc xs ys more)
+      ap (λ (all : List Shown). left_of a.link a.row all) (append_assoc xs ys more)
       ∙ f.goes_on (ys ++ more)
       ∙ ap (λ (t : List ℕ). f.added ++ t)
       (ap (λ n. left_of n b.row (ys ++ more)) (sym f.link_is) ∙ g.goes_on more ∙ ap (λ n. g.added ++ left_of n c.row more) f.link_is)
       ∙ sym (append_assoc f.added g.added (left_of a.link c.row more));
+}
+
+-- lines of a checkpoint
+gone_left : (link : ℕ) (row : Option Row) (lines : List ℕ) (more : List Shown)
+    → left_of link row (gone lines ∷ more) ≡ row_text link row ++ (lines ++ shown_behind link None more)
+gone_left link None lines more = refl
+gone_left link (Some row) lines more =
+    ap (λ n. row_line link row.words.items n ++ (lines ++ shown_behind link None more)) (omega arith)
+
+pub gone_shown : (old mid new : Rows) (lines told : List ℕ) → EndsRow old mid → lines ≡ told → new.text.items ≡ mid.text.items ++ lines
+    → new.link ≡ mid.link → new.row ≡ mid.row → Shows old (gone told ∷ []) new
+gone_shown old mid new lines told ends is text link row = record {
+  added = row_text old.link old.row ++ told;
+  text_is = text ∙ ap (λ (xs : List ℕ). mid.text.items ++ xs) is ∙ ap (λ (xs : List ℕ). xs ++ told) ends.text_is
+      ∙ append_assoc old.text.items (row_text old.link old.row) told;
+  link_is = link ∙ ends.link_is;
+  goes_on = λ more.
+      gone_left old.link old.row told more
+      ∙ sym (append_assoc (row_text old.link old.row) told (shown_behind old.link None more))
+      ∙ ap (λ (r : Option Row). (row_text old.link old.row ++ told) ++ left_of old.link r more) (sym (row ∙ ends.row_is));
 }

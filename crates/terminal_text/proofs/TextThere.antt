@@ -20,7 +20,6 @@ use Rattle.set_events.specs.Config.{fault_of}
 use Rattle.set_events.specs.declared.config.Method.{Method}
 use Rattle.set_events.specs.declared.event.Event.{Event}
 use Rattle.set_events.specs.declared.history.Entry.{Entry}
-use Rattle.set_model.specs.History.{based}
 use Rattle.set_model.specs.Sound.{IsSettings}
 use Rattle.set_model.specs.State.{Settings}
 use Rattle.set_model.specs.Step.{step}
@@ -37,7 +36,7 @@ use Rattle.term_managed.proofs.HearingLemmas.{carries_there, pieces_there}
 use Rattle.term_managed.proofs.KeptLemmas.{so_many_fresh}
 use Rattle.term_managed.specs.Ends.{ManagedState, is_on, seen_at}
 use Rattle.term_managed.specs.Laws.{IsReadyEnd}
-use Rattle.term_managed.specs.Turns.{Activates, Deactivates}
+use Rattle.term_managed.specs.Turns.{Activates, Deactivates, HeardTurn}
 use Rattle.term_model.specs.declared.command.Command.{Command}
 use Rattle.term_model.specs.declared.timers.Timers.{Timers}
 use Rattle.text_forms.specs.Asking.{asked_of}
@@ -45,9 +44,11 @@ use Rattle.text_forms.specs.Timers.{Lengths, lengths_of, timers_of, timers_read}
 use Rattle.text_forms.specs.Times.{LinkTimes, link_times_of, times_of, times_read}
 use Rattle.text_forms.specs.declared.early.Early.{Early}
 use Rattle.text_forms.specs.declared.asked.Asked.{Asked}
-use Rattle.terminal_text.specs.Answers.{CommandsBy, Does, Exchanges, HearsLine, ManagesBy, asker, bits_in, done_text, is_below, is_refused, link_in, one_by_one, unit_bits}
-use Rattle.terminal_text.specs.Showing.{over}
-use Rattle.terminal_text.specs.Text.{HasText, MayDo, MayDoAt, MayFollow, MayOpen, MayOpenAs, MayRead, MayTime, Opens, SetsTimes, TerminalOutcome, opened_bench, opened_end, settings_of, terminal_rules, told_lengths, told_times, usual, usual_times}
+use Rattle.terminal_text.specs.Answers.{Asks, Checkpoints, CommandsBy, Does, DoesAt, TellsHistory, Exchanges, HearsLine, Looks, ManagesBy, asker, bits_in, done_text, is_below, is_refused, link_in, one_by_one, unit_bits}
+use Rattle.terminal_text.specs.Forgetting.{HearsEach, HearsOne, checkpointed, from_now, left_by, shown_of, unasked}
+use Rattle.terminal_text.specs.Showing.{Shown, over}
+use Rattle.terminal_text.specs.declared.forgetting.ForgettingBench.{ForgettingBench}
+use Rattle.terminal_text.specs.Text.{HasText, MayDo, MayDoAt, MayFollow, MayOpen, MayOpenAs, MayRead, MayTime, Opens, SetsTimes, TerminalOutcome, opened_bench, opened_end, settings_of, terminal_rules, timed, told_lengths, told_times, usual, usual_times}
 use Rattle.terminal_text.specs.declared.fault.TerminalFault.{TerminalFault}
 use Rattle.terminal_text.specs.declared.fault.TerminalFault.TheVariants.{Step, Text}
 use Rattle.terminal_text.specs.declared.open_end.End.{End as EndState}
@@ -180,7 +181,7 @@ first_for line = λ v there. fit_for v v (values_fit line v (read_ok (opening_re
 -- AN OUTCOME THERE IS, and the end goes on from a bench that is ready
 abbrev IsGoing : Option EndState → Type 0
 IsGoing None = Unit {0}
-IsGoing (Some end) = (links : ℕ) × IsReadyEnd links end.bench
+IsGoing (Some end) = (links : ℕ) × IsReadyEnd links end.bench.managed
 
 abbrev GoesWell : TerminalOutcome → Type 0
 GoesWell (prints printed next) = IsGoing next
@@ -194,18 +195,17 @@ opens_there : (settings : Settings) (told : Lengths) (early : Early) → IsSetti
 opens_there settings told early is narrow run =
     let timers = timers_there told run in
     let times = times_there usual_times usual_set in (
-      prints [] (Some (record { bench = opened_end (opened_bench settings timers.0) settings.links times.0; early = early })),
+      prints [] (Some (record { bench = unasked (opened_end (opened_bench settings timers.0) settings.links times.0); early = early })),
       record { lengths = timers.0; times = times.0; lengths_are = timers.1; times_are = times.1; outcome_is = refl },
       (settings.links, opened_ready settings timers.0 times.0 is narrow),
     )
 
-sets_there : (links : ℕ) (told : LinkTimes) (old : ManagedState) → IsReadyEnd links old → AreSet told → Has (SetsTimes told old)
+sets_there : (links : ℕ) (told : LinkTimes) (old : ForgettingBench) → IsReadyEnd links old.managed → AreSet told → Has (SetsTimes told old)
 sets_there links told old ready set =
-    let times = times_there told set in
-    let end : ManagedState = opened_end old.bench (length old.bench.links) times.0 in (
-      prints [] (Some (record { bench = end; early = Early.Over })),
+    let times = times_there told set in (
+      prints [] (Some (record { bench = timed times.0 old; early = Early.Over })),
       record { times = times.0; times_are = times.1; outcome_is = refl },
-      (links, record { bench = ready.bench; kept = so_many_fresh times.0 (length old.bench.links) ∙ ready.bench.count }),
+      (links, record { bench = ready.bench; kept = so_many_fresh times.0 (length old.managed.bench.links) ∙ ready.bench.count }),
     )
 
 open_as_there : (profile : Profile) (n : ℕ) (line : List ℕ) (v : Values) → IsSettings (settings_of v) → Has (MayOpenAs profile n line v)
@@ -217,8 +217,17 @@ open_there n line None is = (stops (Text n (flaw_of line)), refl, tt)
 open_there n line (Some v) is = open_as_there v.profile n line v (is v refl)
 
 -- WHAT A LATER LINE ASKS FOR is done.
-abbrev IsDoneThere : ℕ → Asked → ManagedState → Type 0
-IsDoneThere links asked old = (printed : List ℕ) × (new : ManagedState) × Does asked old printed new × IsReadyEnd links new
+abbrev IsDoneThere : ℕ → Asked → ForgettingBench → Type 0
+IsDoneThere links asked old =
+    (printed : List ℕ) × (new : ForgettingBench) × Does asked old printed new × IsReadyEnd links new.managed
+
+-- at the end itself
+abbrev IsAtThere : ℕ → (ManagedState → List ℕ → ManagedState → Type 0) → ManagedState → Type 0
+IsAtThere links does old = (printed : List ℕ) × (new : ManagedState) × does old printed new × IsReadyEnd links new
+
+at_there : (links : ℕ) (does : ManagedState → List ℕ → ManagedState → Type 0) (old : ForgettingBench) → IsAtThere links does old.managed
+    → (printed : List ℕ) × (new : ForgettingBench) × DoesAt does old printed new × IsReadyEnd links new.managed
+at_there links does old there = (there.0, record { managed = there.1; plan = old.plan }, (there.2, refl), there.3)
 
 below : (link links : ℕ) → nat_lt link links ≡ true → link < links
 below link links is = grind (arith, nat_tests, is)
@@ -253,19 +262,64 @@ bits_short : (bits : List Bool) → AreShort (one_by_one bits)
 bits_short [] = tt
 bits_short (bit ∷ bits) = (omega arith, bits_short bits)
 
-hears_there : (links link : ℕ) (bits : List Bool) (old : ManagedState) → IsReadyEnd links old → link < links
-    → (printed : List ℕ) × (new : ManagedState) × HearsLine link bits old printed new × IsReadyEnd links new
+checkpointed_ready : (links : ℕ) (old : ManagedState) → IsReadyEnd links old → IsReadyEnd links (checkpointed old)
+checkpointed_ready links old ready = record {
+  bench = record {
+    gives = record {
+      sound = (checkpoints old.bench.set.state).sound ready.bench.gives.sound;
+      settings = ready.bench.gives.settings;
+      narrow = ready.bench.gives.narrow;
+    };
+    settings = ready.bench.gives.settings;
+    narrow = ready.bench.gives.narrow;
+    count = ready.bench.count;
+    few = ready.bench.few;
+  };
+  kept = ready.kept;
+}
+
+ready_by : (links : ℕ) (due : Bool) (old : ManagedState) → IsReadyEnd links old → IsReadyEnd links (if due then checkpointed old else old)
+ready_by links true old ready = checkpointed_ready links old ready
+ready_by links false old ready = ready
+
+left_ready : (links : ℕ) (one : Option HeardTurn) (s : ForgettingBench) → IsReadyEnd links s.managed
+    → IsReadyEnd links (left_by one s).managed
+left_ready links None s ready = ready
+left_ready links (Some heard) s ready = ready_by links _ s.managed ready
+
+one_there : (links link : ℕ) (bits : List Bool) (old : ForgettingBench) → IsReadyEnd links old.managed → link < links
+    → length bits ≤ 8 → (items : List Shown) × (new : ForgettingBench) × HearsOne link bits old items new × IsReadyEnd links new.managed
+one_there links link bits old ready is short =
+    let all = pieces_there links link (bits ∷ []) old.managed ready is (short, tt) in
+    let own = all.2 in
+    let between : ForgettingBench = record { managed = own.0; plan = old.plan } in (
+      shown_of own.1 between,
+      left_by own.1 between,
+      record { one = own.1; between = own.0; hears = own.3; items_are = refl; new_is = refl },
+      left_ready links own.1 between (subst (λ (m : ManagedState). IsReadyEnd links m) own.4.1 all.3),
+    )
+
+each_there : (links link : ℕ) (pieces : List (List Bool)) (old : ForgettingBench) → IsReadyEnd links old.managed → link < links
+    → AreShort pieces → (items : List Shown) × (new : ForgettingBench) × HearsEach link pieces old items new × IsReadyEnd links new.managed
+each_there links link [] old ready is short = ([], old, (refl, refl), ready)
+each_there links link (bits ∷ pieces) old ready is short =
+    let one = one_there links link bits old ready is short.0 in
+    let rest = each_there links link pieces one.1 one.3 is short.1 in
+    (one.0 ++ rest.0, rest.1, (one.1, one.0, rest.0, one.2, rest.2, refl), rest.3)
+
+hears_there : (links link : ℕ) (bits : List Bool) (old : ForgettingBench) → IsReadyEnd links old.managed → link < links
+    → (printed : List ℕ) × (new : ForgettingBench) × HearsLine link bits old printed new × IsReadyEnd links new.managed
 hears_there links link bits old ready is =
-    let all = pieces_there links link (one_by_one bits) old ready is (bits_short bits) in
-    (_, all.1, record { heard = all.0; hears = all.2; printed_is = refl }, all.3)
+    let all = each_there links link (one_by_one bits) old ready is (bits_short bits) in
+    (_, all.1, record { items = all.0; hears = all.2; printed_is = refl }, all.3)
 
-exchanges_there : (links link : ℕ) (octets : List ℕ) (old : ManagedState) → IsReadyEnd links old → link < links
-    → (printed : List ℕ) × (new : ManagedState) × Exchanges link octets old printed new × IsReadyEnd links new
+exchanges_there : (links link : ℕ) (octets : List ℕ) (old : ForgettingBench) → IsReadyEnd links old.managed → link < links
+    → (printed : List ℕ) × (new : ForgettingBench) × Exchanges link octets old printed new × IsReadyEnd links new.managed
 exchanges_there links link octets old ready is =
-    let all = pieces_there links link (map (bits_of 8) octets) old ready is (octets_short octets) in
-    (_, all.1, record { heard = all.0; hears = all.2; printed_is = refl }, all.3)
+    let all = each_there links link (map (bits_of 8) octets) old ready is (octets_short octets) in
+    (_, all.1, record { items = all.0; hears = all.2; printed_is = refl }, all.3)
 
-event_there : (links : ℕ) (event : Event) (old : ManagedState) → IsReadyEnd links old → IsDoneThere links (Asked.Event event) old
+event_there : (links : ℕ) (event : Event) (old : ManagedState) → IsReadyEnd links old → IsAtThere links (Asks event) old
 event_there links event old ready =
     let set = old.bench.set in
     let answer = (step set.state event).answer in
@@ -297,26 +351,13 @@ event_there links event old ready =
       },
     )
 
-checkpoint_there : (quiet : Bool) (links : ℕ) (old : ManagedState) → IsReadyEnd links old → IsDoneThere links (Asked.Checkpoint quiet) old
-checkpoint_there quiet links old ready = (
-  _,
-  record { bench = record { set = based old.bench.set; links = old.bench.links }; kept = old.kept },
-  (refl, refl),
-  record {
-    bench = record {
-      gives = record {
-        sound = (checkpoints old.bench.set.state).sound ready.bench.gives.sound;
-        settings = ready.bench.gives.settings;
-        narrow = ready.bench.gives.narrow;
-      };
-      settings = ready.bench.gives.settings;
-      narrow = ready.bench.gives.narrow;
-      count = ready.bench.count;
-      few = ready.bench.few;
-    };
-    kept = ready.kept;
-  },
-)
+checkpoint_there : (quiet : Bool) (links : ℕ) (old : ManagedState) → IsReadyEnd links old → IsAtThere links (Checkpoints quiet) old
+checkpoint_there quiet links old ready = (_, checkpointed old, (refl, refl), checkpointed_ready links old ready)
+
+look_there : (links link : ℕ) (old : ManagedState) → IsReadyEnd links old → link < links → IsAtThere links (Looks link) old
+look_there links link old ready is =
+    let there = there_is old.bench.links link (subst (λ n. link < n) (sym ready.bench.count) is) in
+    (_, old, record { at = there.0; is_at = there.1; printed_is = refl; new_is = refl }, ready)
 
 activates_there : (links link : ℕ) (on : Bool) (old : ManagedState) → IsReadyEnd links old → link < links
     → (printed : List ℕ) × (new : ManagedState) × ManagesBy on (Activates link) link old printed new × IsReadyEnd links new
@@ -332,28 +373,33 @@ deactivates_there links link false old ready is =
     let all = carries_there links link deactivated old ready is in
     (_, all.1, (all.0, all.2, refl), all.3)
 
-does_there : (links : ℕ) (asked : Asked) (old : ManagedState) → IsReadyEnd links old → is_below links (link_in asked) ≡ true
-    → IsDoneThere links asked old
+does_there : (links : ℕ) (asked : Asked) (old : ForgettingBench) → IsReadyEnd links old.managed
+    → is_below links (link_in asked) ≡ true → IsDoneThere links asked old
 does_there links (Asked.Command link command) old ready is =
-    command_there links link command (is_refused command link old.bench) old ready (below link links is)
+    let refused = is_refused command link old.managed.bench in
+    at_there links (CommandsBy refused link command) old (command_there links link command refused old.managed ready (below link links is))
 does_there links (Asked.Octets link octets) old ready is = exchanges_there links link octets old ready (below link links is)
 does_there links (Asked.Hear link unit) old ready is =
     hears_there links link (over unit.times (unit_bits unit.octets)) old ready (below link links is)
 does_there links (Asked.Flags link times) old ready is = hears_there links link (over times flag) old ready (below link links is)
 does_there links (Asked.Bits link bits) old ready is =
     hears_there links link (over bits.times (bits_in bits.octets)) old ready (below link links is)
-does_there links (Asked.Event event) old ready is = event_there links event old ready
+does_there links (Asked.Event event) old ready is = at_there links (Asks event) old (event_there links event old.managed ready)
 does_there links (Asked.Look link) old ready is =
-    let there = there_is old.bench.links link (subst (λ n. link < n) (sym ready.bench.count) (below link links is)) in
-    (_, old, record { at = there.0; is_at = there.1; printed_is = refl; new_is = refl }, ready)
+    at_there links (Looks link) old (look_there links link old.managed ready (below link links is))
 does_there links (Asked.Activate link) old ready is =
-    activates_there links link (is_on (slice_get old.kept link)) old ready (below link links is)
+    let on = is_on (slice_get old.managed.kept link) in
+    at_there links (ManagesBy on (Activates link) link) old (activates_there links link on old.managed ready (below link links is))
 does_there links (Asked.Deactivate link) old ready is =
-    deactivates_there links link (not (is_on (slice_get old.kept link))) old ready (below link links is)
-does_there links (Asked.Checkpoint quiet) old ready is = checkpoint_there quiet links old ready
-does_there links Asked.History old ready is = (_, old, (refl, refl), ready)
+    let off = not (is_on (slice_get old.managed.kept link)) in
+    at_there links (ManagesBy off (Deactivates link) link) old (deactivates_there links link off old.managed ready (below link links is))
+does_there links (Asked.Checkpoint quiet) old ready is =
+    at_there links (Checkpoints quiet) old (checkpoint_there quiet links old.managed ready)
+does_there links (Asked.Forget every told) old ready is =
+    (_, record { managed = old.managed; plan = from_now every told }, (refl, refl), ready)
+does_there links Asked.History old ready is = at_there links TellsHistory old (_, old.managed, (refl, refl), ready)
 
-do_at_there : (there : Bool) (links n : ℕ) (asked : Asked) (old : ManagedState) → IsReadyEnd links old
+do_at_there : (there : Bool) (links n : ℕ) (asked : Asked) (old : ForgettingBench) → IsReadyEnd links old.managed
     → (there ≡ true → is_below links (link_in asked) ≡ true) → Has (MayDoAt there n asked old)
 do_at_there false links n asked old ready is = (stops (Step n), refl, tt)
 do_at_there true links n asked old ready is =
@@ -363,22 +409,23 @@ do_at_there true links n asked old ready is =
       (links, all.3),
     )
 
-do_there : (links n : ℕ) (line : List ℕ) (found : Option Asked) (old : ManagedState) → IsReadyEnd links old → Has (MayDo n line found old)
+do_there : (links n : ℕ) (line : List ℕ) (found : Option Asked) (old : ForgettingBench) → IsReadyEnd links old.managed
+    → Has (MayDo n line found old)
 do_there links n line None old ready = (stops (Text n (flaw_of line)), refl, tt)
 do_there links n line (Some asked) old ready =
-    do_at_there (is_below (length old.bench.links) (link_in asked)) links n asked old ready
+    do_at_there (is_below (length old.managed.bench.links) (link_in asked)) links n asked old ready
     (λ is. subst (λ k. is_below k (link_in asked) ≡ true) ready.bench.count is)
 
-time_there : (links n : ℕ) (line : List ℕ) (told : Option LinkTimes) (old : ManagedState) → IsReadyEnd links old → ForSome told AreSet
+time_there : (links n : ℕ) (line : List ℕ) (told : Option LinkTimes) (old : ForgettingBench) → IsReadyEnd links old.managed → ForSome told AreSet
     → Has (MayTime n line told old)
 time_there links n line None old ready set = do_there links n line (asked_of line) old ready
 time_there links n line (Some told) old ready set = sets_there links told old ready (set told refl)
 
-follow_there : (links n : ℕ) (line : List ℕ) (told : Option Lengths) (times : Option LinkTimes) (old : ManagedState)
-    → IsReadyEnd links old → ForSome told Run → ForSome times AreSet → Has (MayFollow n line told times old)
+follow_there : (links n : ℕ) (line : List ℕ) (told : Option Lengths) (times : Option LinkTimes) (old : ForgettingBench)
+    → IsReadyEnd links old.managed → ForSome told Run → ForSome times AreSet → Has (MayFollow n line told times old)
 follow_there links n line None times old ready run set = time_there links n line times old ready set
 follow_there links n line (Some told) times old ready run set =
-    opens_there old.bench.set.base.state.settings told Early.Times ready.bench.settings ready.bench.narrow (run told refl)
+    opens_there old.managed.bench.set.base.state.settings told Early.Times ready.bench.settings ready.bench.narrow (run told refl)
 
 line_there : (n : ℕ) (state : Option EndState) (line : List ℕ) → IsGoing state → Has (MayRead n state line)
 line_there n None line going = open_there n line (first_line line) (first_for line)

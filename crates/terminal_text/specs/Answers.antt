@@ -3,15 +3,13 @@ use Rattle.std.specs.Prelude.{◌≡◌, ℕ, Bool, true, false, not, ◌==◌, 
 use Rattle.text_entries.specs.Texts.{answer_text}
 use Rattle.term_bench.specs.Ends.{AtLink, BenchState, Commands, is_start, phase_of, word_of}
 use Rattle.term_managed.specs.Ends.{ManagedState, is_on}
-use Rattle.term_managed.specs.Turns.{Activates, Deactivates, HeardTurn, HearsPieces}
+use Rattle.term_managed.specs.Turns.{Activates, Deactivates}
 use Rattle.term_managed.specs.declared.turn.Deed.{Deed}
 use Rattle.term_bench.specs.declared.counts.TurnCounts.{TurnCounts}
 use Rattle.term_bench.specs.declared.word.LinkWord.{LinkWord}
 use Rattle.term_bench.specs.declared.word.Phase.{Phase}
 use Rattle.text_base.specs.Figures.{hex_text}
-use Rattle.set_core.specs.Items.{piece}
 use Rattle.text_entries.specs.Entries.{entries_text}
-use Rattle.text_entries.specs.Pieces.{items_text}
 use Rattle.l2_bits.specs.Flags.{flag}
 use Rattle.l2_bits.specs.LineBits.{bits_of, line_bits}
 use Rattle.l2_bits.specs.SealedText.{sealed_text}
@@ -23,11 +21,12 @@ use Rattle.set_events.specs.declared.answer.Answer.{Answer}
 use Rattle.set_events.specs.declared.event.Actor.{Actor}
 use Rattle.set_events.specs.declared.event.Actor.TheVariants.{User, Terminal as TerminalOf}
 use Rattle.set_events.specs.declared.event.Event.{Event}
-use Rattle.set_events.specs.declared.history.Entry.{Entry}
-use Rattle.set_model.specs.History.{IsStep, based}
+use Rattle.set_model.specs.History.{IsStep}
 use Rattle.term_model.specs.declared.command.Command.{Command}
 use Rattle.text_forms.specs.declared.asked.Asked.{Asked}
-use Rattle.terminal_text.specs.Showing.{deeds_lines, over, shown, without_unit, word_name}
+use Rattle.terminal_text.specs.Forgetting.{HearsEach, checkpointed, from_now, gone_text}
+use Rattle.terminal_text.specs.Showing.{Shown, deeds_lines, over, shown, turns_among, without_unit, word_name}
+use Rattle.terminal_text.specs.declared.forgetting.ForgettingBench.{ForgettingBench}
 
 abbrev pub done_text : List ℕ
 done_text = codes "done\n"
@@ -46,26 +45,27 @@ CommandsBy false link command old printed new =
     (printed ≡ done_text) × Commands link command old.bench new.bench × (new.kept ≡ old.kept)
 
 -- OCTETS: what their turns show, and the octets that these put, as many
-pub record Exchanges (link : ℕ) (octets : List ℕ) (old : ManagedState) (printed : List ℕ) (new : ManagedState) : Type 0 where
-  pub heard : List HeardTurn
-  pub hears : HearsPieces link (map (bits_of 8) octets) old heard new
-  pub printed_is : printed ≡ shown link (map without_unit heard)
-      ++ (codes "octets " ++ (decimal link ++ (codes " " ++ (hex_text (map (λ h. h.turn.turn.put) heard) ++ codes "\n"))))
+pub record Exchanges (link : ℕ) (octets : List ℕ) (old : ForgettingBench) (printed : List ℕ) (new : ForgettingBench) : Type 0 where
+  pub items : List Shown
+  pub hears : HearsEach link (map (bits_of 8) octets) old items new
+  pub printed_is : printed ≡ shown link (map without_unit items)
+      ++ (codes "octets " ++ (decimal link ++ (codes " "
+      ++ (hex_text (map (λ h. h.turn.turn.put) (turns_among items)) ++ codes "\n"))))
 
 -- LAW: as many octets go out as came
 abbrev pub AsManyGoOut : Type 0
 AsManyGoOut =
-    (link : ℕ) (octets : List ℕ) (old : ManagedState) (printed : List ℕ) (new : ManagedState) → (e : Exchanges link octets old printed new)
-    → length (map (λ h. h.turn.turn.put) e.heard) ≡ length octets
+    (link : ℕ) (octets : List ℕ) (old : ForgettingBench) (printed : List ℕ) (new : ForgettingBench)
+    → (e : Exchanges link octets old printed new) → length (map (λ h. h.turn.turn.put) (turns_among e.items)) ≡ length octets
 
 -- BITS: what the turns show that are taken by them, and how many these are
 abbrev pub one_by_one : List Bool → List (List Bool)
 one_by_one bits = map (λ bit. bit ∷ []) bits
 
-pub record HearsLine (link : ℕ) (bits : List Bool) (old : ManagedState) (printed : List ℕ) (new : ManagedState) : Type 0 where
-  pub heard : List HeardTurn
-  pub hears : HearsPieces link (one_by_one bits) old heard new
-  pub printed_is : printed ≡ shown link heard ++ (codes "turns " ++ (decimal (length heard) ++ codes "\n"))
+pub record HearsLine (link : ℕ) (bits : List Bool) (old : ForgettingBench) (printed : List ℕ) (new : ForgettingBench) : Type 0 where
+  pub items : List Shown
+  pub hears : HearsEach link (one_by_one bits) old items new
+  pub printed_is : printed ≡ shown link items ++ (codes "turns " ++ (decimal (length (turns_among items)) ++ codes "\n"))
 
 -- a unit on the line: its octets and their check octets (Q.703 2.2, 4.2), with zeros inserted (3.2), and a flag behind (3.1)
 abbrev pub unit_bits : List ℕ → List Bool
@@ -141,29 +141,35 @@ ManagesBy true carries link old printed new = (printed ≡ codes "refused 9\n") 
 ManagesBy false carries link old printed new =
     (deeds : List Deed) × carries old deeds new × (printed ≡ managed_text link old deeds)
 
--- the entries that go at a checkpoint, which a quiet one doesn't tell
-abbrev pub gone_text : Bool → List Entry → List ℕ
-gone_text false history = items_text Narrow (piece history)
-gone_text true history = []
+-- at the end itself; the checkpoints that nobody asks for stay as they are
+abbrev pub DoesAt : (ManagedState → List ℕ → ManagedState → Type 0) → ForgettingBench → List ℕ → ForgettingBench → Type 0
+DoesAt does old printed new = does old.managed printed new.managed × (new.plan ≡ old.plan)
+
+-- A CHECKPOINT, and a history
+abbrev pub Checkpoints : Bool → ManagedState → List ℕ → ManagedState → Type 0
+Checkpoints quiet old printed new = (printed ≡ gone_text quiet old.bench.set.history ++ done_text) × (new ≡ checkpointed old)
+
+abbrev pub TellsHistory : ManagedState → List ℕ → ManagedState → Type 0
+TellsHistory old printed new = (printed ≡ entries_text Narrow old.bench.set.history ++ done_text) × (new ≡ old)
 
 -- WHAT IS ASKED FOR is done: this is printed, and this is left
-abbrev pub Does : Asked → ManagedState → List ℕ → ManagedState → Type 0
+abbrev pub Does : Asked → ForgettingBench → List ℕ → ForgettingBench → Type 0
 Does (Asked.Command link command) old printed new =
-    CommandsBy (is_refused command link old.bench) link command old printed new
+    DoesAt (CommandsBy (is_refused command link old.managed.bench) link command) old printed new
 Does (Asked.Activate link) old printed new =
-    ManagesBy (is_on (slice_get old.kept link)) (Activates link) link old printed new
+    DoesAt (ManagesBy (is_on (slice_get old.managed.kept link)) (Activates link) link) old printed new
 Does (Asked.Deactivate link) old printed new =
-    ManagesBy (not (is_on (slice_get old.kept link))) (Deactivates link) link old printed new
+    DoesAt (ManagesBy (not (is_on (slice_get old.managed.kept link))) (Deactivates link) link) old printed new
 Does (Asked.Octets link octets) old printed new = Exchanges link octets old printed new
 Does (Asked.Hear link unit) old printed new = HearsLine link (over unit.times (unit_bits unit.octets)) old printed new
 Does (Asked.Flags link times) old printed new = HearsLine link (over times flag) old printed new
 Does (Asked.Bits link bits) old printed new = HearsLine link (over bits.times (bits_in bits.octets)) old printed new
-Does (Asked.Event event) old printed new = Asks event old printed new
-Does (Asked.Look link) old printed new = Looks link old printed new
-Does (Asked.Checkpoint quiet) old printed new =
-    (printed ≡ gone_text quiet old.bench.set.history ++ done_text)
-    × (new ≡ record old { bench = record { set = based old.bench.set; links = old.bench.links } })
-Does Asked.History old printed new = (printed ≡ entries_text Narrow old.bench.set.history ++ done_text) × (new ≡ old)
+Does (Asked.Event event) old printed new = DoesAt (Asks event) old printed new
+Does (Asked.Look link) old printed new = DoesAt (Looks link) old printed new
+Does (Asked.Checkpoint quiet) old printed new = DoesAt (Checkpoints quiet) old printed new
+Does (Asked.Forget every told) old printed new =
+    (printed ≡ done_text) × (new ≡ record { managed = old.managed; plan = from_now every told })
+Does Asked.History old printed new = DoesAt TellsHistory old printed new
 
 -- the link that is asked for, if one is
 abbrev pub link_of_event : Event → Option ℕ

@@ -1,4 +1,5 @@
 pub mod Showing
+pub mod Forgetting
 pub mod Answers
 pub mod Text
 pub mod One

@@ -1,13 +1,13 @@
 -- LAW: a line of `terminal` has one outcome, since what comes on a line decides what the turns do (term_bench).
 use Rattle.std.specs.Prelude.{◌≡◌, ◌<◌, ℕ, Bool, true, false, not, List, [], ◌∷◌, ◌++◌, length, map, Option, Some, None, codes, decimal, slice_get, slice_set}
-use Rattle.std.proofs.Common.{ap, sym, subst, ◌∙◌}
+use Rattle.std.proofs.Common.{refl, ap, sym, subst, ◌∙◌}
 use Rattle.std.proofs.Props.{props}
 use Rattle.text_entries.specs.Texts.{answer_text}
 use Rattle.l3_link.specs.declared.times.Times.{Times}
 use Rattle.term_bench.proofs.OneLemmas.{one_there, same_bench, same_set}
 use Rattle.term_managed.proofs.HearingLemmas.{carries_one, one_hearing, same_end}
 use Rattle.term_managed.specs.Ends.{ManagedState, is_on, seen_at}
-use Rattle.term_managed.specs.Turns.{Activates, Deactivates, HeardTurn}
+use Rattle.term_managed.specs.Turns.{Activates, Deactivates, HeardTurn, HearsPiece}
 use Rattle.term_managed.specs.declared.turn.Deed.{Deed}
 use Rattle.l3_link.specs.Table.{activated, deactivated}
 use Rattle.term_bench.specs.Ends.{AtLink, phase_of, told_at}
@@ -29,9 +29,13 @@ use Rattle.text_forms.specs.declared.early.Early.{Early}
 use Rattle.text_forms.specs.Asking.{asked_of}
 use Rattle.text_forms.specs.Timers.{Lengths, timers_of}
 use Rattle.text_forms.specs.declared.asked.Asked.{Asked}
-use Rattle.terminal_text.specs.Answers.{Asks, CommandsBy, Does, Exchanges, HearsLine, Looks, ManagesBy, asker, bits_in, is_below, is_refused, link_in, look_text, managed_text, one_by_one, unit_bits}
-use Rattle.terminal_text.specs.Showing.{over, shown, without_unit}
-use Rattle.terminal_text.specs.Text.{IsDone, MayDo, MayDoAt, MayFollow, MayOpen, MayOpenAs, MayTime, Opens, SetsTimes, TerminalOutcome, opened_bench, opened_end, settings_of, told_lengths, told_times, terminal_rules, usual}
+use Rattle.terminal_text.specs.Answers.{Asks, Checkpoints, CommandsBy, Does, DoesAt, TellsHistory, Exchanges, HearsLine, Looks, ManagesBy, asker, bits_in, is_below, is_refused, link_in, look_text, managed_text, one_by_one, unit_bits}
+use Rattle.terminal_text.specs.Forgetting.{HearsEach, HearsOne, left_by, shown_of, unasked}
+use Rattle.terminal_text.specs.Showing.{Shown, over, shown, turns_among, without_unit}
+use Rattle.terminal_text.specs.declared.forgetting.Forgetting.{Forgetting}
+use Rattle.terminal_text.specs.declared.forgetting.ForgettingBench.{ForgettingBench}
+use Rattle.std.specs.Option.{option_to_list}
+use Rattle.terminal_text.specs.Text.{IsDone, MayDo, MayDoAt, MayFollow, MayOpen, MayOpenAs, MayTime, Opens, SetsTimes, TerminalOutcome, opened_bench, opened_end, settings_of, timed, told_lengths, told_times, terminal_rules, usual}
 use Rattle.text_lines.specs.Lines.{prints}
 use Rattle.text_lines.specs.Talks.{HaveOneOutcome}
 
@@ -134,24 +138,68 @@ commands_one false link command old p q x y a b =
           (a.2 ∙ sym b.2),
     )
 
-exchanges_one : (link : ℕ) (octets : List ℕ) (old : ManagedState) (p q : List ℕ) (x y : ManagedState)
+same_driven : (a b : ForgettingBench) → a.managed ≡ b.managed → a.plan ≡ b.plan → a ≡ b
+same_driven a b managed plan =
+    ap (λ (m : ManagedState). record { managed = m; plan = a.plan }) managed
+    ∙ ap (λ (p : Forgetting). record { managed = b.managed; plan = p }) plan
+
+-- What comes piece by piece.
+
+same_list : (a b : Option HeardTurn) → option_to_list a ++ [] ≡ option_to_list b ++ [] → a ≡ b
+same_list None None h = refl
+same_list None (Some b) h = absurd (cc h)
+same_list (Some a) None h = absurd (cc h)
+same_list (Some a) (Some b) h = let same : a ≡ b = cc in ap (λ (t : HeardTurn). Some t) same
+
+piece_one : (link : ℕ) (bits : List Bool) (old : ManagedState) (a b : Option HeardTurn) (x y : ManagedState)
+    → HearsPiece link bits old a x → HearsPiece link bits old b y → (a ≡ b) × (x ≡ y)
+piece_one link bits old a b x y f g =
+    let one = one_hearing link (bits ∷ []) old (option_to_list a ++ []) (option_to_list b ++ []) x y
+    (x, a, [], f, (refl, refl), refl) (y, b, [], g, (refl, refl), refl) in (same_list a b one.0, one.1)
+
+driven : Forgetting → ManagedState → ForgettingBench
+driven plan managed = record { managed = managed; plan = plan }
+
+hears_each_one : (link : ℕ) (bits : List Bool) (old : ForgettingBench) (p q : List Shown) (x y : ForgettingBench)
+    → HearsOne link bits old p x → HearsOne link bits old q y → (p ≡ q) × (x ≡ y)
+unfolding driven
+hears_each_one link bits old p q x y a b =
+    let one = piece_one link bits old.managed a.one b.one a.between b.between a.hears b.hears in (
+      a.items_are ∙ ap (λ (h : Option HeardTurn). shown_of h (driven old.plan a.between)) one.0
+          ∙ ap (λ (m : ManagedState). shown_of b.one (driven old.plan m)) one.1 ∙ sym b.items_are,
+      a.new_is ∙ ap (λ (h : Option HeardTurn). left_by h (driven old.plan a.between)) one.0
+          ∙ ap (λ (m : ManagedState). left_by b.one (driven old.plan m)) one.1 ∙ sym b.new_is,
+    )
+
+pub one_driven : (link : ℕ) (pieces : List (List Bool)) (old : ForgettingBench) (p q : List Shown) (x y : ForgettingBench)
+    → HearsEach link pieces old p x → HearsEach link pieces old q y → (p ≡ q) × (x ≡ y)
+one_driven link [] old p q x y a b = (a.0 ∙ sym b.0, a.1 ∙ sym b.1)
+one_driven link (bits ∷ pieces) old p q x y a b =
+    let one = hears_each_one link bits old a.1 b.1 a.0 b.0 a.3 b.3 in
+    let rest = one_driven link pieces b.0 a.2 b.2 x y (subst (λ (s : ForgettingBench). HearsEach link pieces s a.2 x) one.1 a.4) b.4 in (
+      a.5 ∙ ap (λ (f : List Shown). f ++ a.2) one.0 ∙ ap (λ (l : List Shown). b.1 ++ l) rest.0 ∙ sym b.5,
+      rest.1,
+    )
+
+exchanges_one : (link : ℕ) (octets : List ℕ) (old : ForgettingBench) (p q : List ℕ) (x y : ForgettingBench)
     → Exchanges link octets old p x → Exchanges link octets old q y → (p ≡ q) × (x ≡ y)
 exchanges_one link octets old p q x y a b =
-    let one = one_hearing link (map (bits_of 8) octets) old a.heard b.heard x y a.hears b.hears in
-    (a.printed_is ∙ ap (λ (heard : List HeardTurn). printed heard) one.0 ∙ sym b.printed_is, one.1)
+    let one = one_driven link (map (bits_of 8) octets) old a.items b.items x y a.hears b.hears in
+    (a.printed_is ∙ ap (λ (items : List Shown). printed items) one.0 ∙ sym b.printed_is, one.1)
   where
-    printed : List HeardTurn → List ℕ
-    printed heard = shown link (map without_unit heard)
-        ++ (codes "octets " ++ (decimal link ++ (codes " " ++ (hex_text (map (λ h. h.turn.turn.put) heard) ++ codes "\n"))))
+    printed : List Shown → List ℕ
+    printed items = shown link (map without_unit items)
+        ++ (codes "octets " ++ (decimal link ++ (codes " "
+        ++ (hex_text (map (λ h. h.turn.turn.put) (turns_among items)) ++ codes "\n"))))
 
-hears_one : (link : ℕ) (bits : List Bool) (old : ManagedState) (p q : List ℕ) (x y : ManagedState)
+hears_one : (link : ℕ) (bits : List Bool) (old : ForgettingBench) (p q : List ℕ) (x y : ForgettingBench)
     → HearsLine link bits old p x → HearsLine link bits old q y → (p ≡ q) × (x ≡ y)
 hears_one link bits old p q x y a b =
-    let one = one_hearing link (one_by_one bits) old a.heard b.heard x y a.hears b.hears in
-    (a.printed_is ∙ ap (λ (heard : List HeardTurn). printed heard) one.0 ∙ sym b.printed_is, one.1)
+    let one = one_driven link (one_by_one bits) old a.items b.items x y a.hears b.hears in
+    (a.printed_is ∙ ap (λ (items : List Shown). printed items) one.0 ∙ sym b.printed_is, one.1)
   where
-    printed : List HeardTurn → List ℕ
-    printed heard = shown link heard ++ (codes "turns " ++ (decimal (length heard) ++ codes "\n"))
+    printed : List Shown → List ℕ
+    printed items = shown link items ++ (codes "turns " ++ (decimal (length (turns_among items)) ++ codes "\n"))
 
 asks_one : (event : Event) (old : ManagedState) (p q : List ℕ) (x y : ManagedState) → Asks event old p x → Asks event old q y
     → (p ≡ q) × (x ≡ y)
@@ -192,19 +240,42 @@ deactivates_one false link old p q x y a b =
     let one = carries_one link deactivated old a.0 b.0 x y a.1 b.1 in
     (a.2 ∙ ap (λ (deeds : List Deed). managed_text link old deeds) one.0 ∙ sym b.2, one.1)
 
-does_one : (asked : Asked) (old : ManagedState) (p q : List ℕ) (x y : ManagedState) → Does asked old p x → Does asked old q y
+checkpoints_one : (quiet : Bool) (old : ManagedState) (p q : List ℕ) (x y : ManagedState) → Checkpoints quiet old p x
+    → Checkpoints quiet old q y → (p ≡ q) × (x ≡ y)
+checkpoints_one quiet old p q x y a b = (a.0 ∙ sym b.0, a.1 ∙ sym b.1)
+
+history_one : (old : ManagedState) (p q : List ℕ) (x y : ManagedState) → TellsHistory old p x → TellsHistory old q y → (p ≡ q) × (x ≡ y)
+history_one old p q x y a b = (a.0 ∙ sym b.0, a.1 ∙ sym b.1)
+
+-- at the end itself
+at_one : (does : ManagedState → List ℕ → ManagedState → Type 0) (old : ForgettingBench) (p q : List ℕ) (x y : ForgettingBench)
+    → ((u v : ManagedState) → does old.managed p u → does old.managed q v → (p ≡ q) × (u ≡ v))
+    → DoesAt does old p x → DoesAt does old q y → (p ≡ q) × (x ≡ y)
+at_one does old p q x y one a b =
+    let both = one x.managed y.managed a.0 b.0 in (both.0, same_driven x y both.1 (a.1 ∙ sym b.1))
+
+does_one : (asked : Asked) (old : ForgettingBench) (p q : List ℕ) (x y : ForgettingBench) → Does asked old p x → Does asked old q y
     → (p ≡ q) × (x ≡ y)
-does_one (Asked.Command link command) old p q x y a b = commands_one (is_refused command link old.bench) link command old p q x y a b
+does_one (Asked.Command link command) old p q x y a b =
+    let m = old.managed in
+    let refused = is_refused command link m.bench in
+    at_one (CommandsBy refused link command) old p q x y (λ u v. commands_one refused link command m p q u v) a b
 does_one (Asked.Octets link octets) old p q x y a b = exchanges_one link octets old p q x y a b
 does_one (Asked.Hear link unit) old p q x y a b = hears_one link (over unit.times (unit_bits unit.octets)) old p q x y a b
 does_one (Asked.Flags link times) old p q x y a b = hears_one link (over times flag) old p q x y a b
 does_one (Asked.Bits link bits) old p q x y a b = hears_one link (over bits.times (bits_in bits.octets)) old p q x y a b
-does_one (Asked.Event event) old p q x y a b = asks_one event old p q x y a b
-does_one (Asked.Look link) old p q x y a b = looks_one link old p q x y a b
-does_one (Asked.Activate link) old p q x y a b = activates_one (is_on (slice_get old.kept link)) link old p q x y a b
-does_one (Asked.Deactivate link) old p q x y a b = deactivates_one (not (is_on (slice_get old.kept link))) link old p q x y a b
-does_one (Asked.Checkpoint quiet) old p q x y a b = (a.0 ∙ sym b.0, a.1 ∙ sym b.1)
-does_one Asked.History old p q x y a b = (a.0 ∙ sym b.0, a.1 ∙ sym b.1)
+does_one (Asked.Event event) old p q x y a b = at_one (Asks event) old p q x y (λ u v. asks_one event old.managed p q u v) a b
+does_one (Asked.Look link) old p q x y a b = at_one (Looks link) old p q x y (λ u v. looks_one link old.managed p q u v) a b
+does_one (Asked.Activate link) old p q x y a b =
+    let on = is_on (slice_get old.managed.kept link) in
+    at_one (ManagesBy on (Activates link) link) old p q x y (λ u v. activates_one on link old.managed p q u v) a b
+does_one (Asked.Deactivate link) old p q x y a b =
+    let off = not (is_on (slice_get old.managed.kept link)) in
+    at_one (ManagesBy off (Deactivates link) link) old p q x y (λ u v. deactivates_one off link old.managed p q u v) a b
+does_one (Asked.Checkpoint quiet) old p q x y a b =
+    at_one (Checkpoints quiet) old p q x y (λ u v. checkpoints_one quiet old.managed p q u v) a b
+does_one (Asked.Forget every told) old p q x y a b = (a.0 ∙ sym b.0, a.1 ∙ sym b.1)
+does_one Asked.History old p q x y a b = at_one TellsHistory old p q x y (λ u v. history_one old.managed p q u v) a b
 
 -- Lines.
 
@@ -218,12 +289,12 @@ opens_one settings told early a b x y =
   where
     opened : Timers → Times → TerminalOutcome
     opened lengths times =
-        prints [] (Some (record { bench = opened_end (opened_bench settings lengths) settings.links times; early = early }))
+        prints [] (Some (record { bench = unasked (opened_end (opened_bench settings lengths) settings.links times); early = early }))
 
-times_one : (told : LinkTimes) (old : ManagedState) (a b : TerminalOutcome) → SetsTimes told old a → SetsTimes told old b → a ≡ b
+times_one : (told : LinkTimes) (old : ForgettingBench) (a b : TerminalOutcome) → SetsTimes told old a → SetsTimes told old b → a ≡ b
 times_one told old a b x y =
     x.outcome_is
-    ∙ ap (λ (times : Times). prints [] (Some (record { bench = opened_end old.bench (length old.bench.links) times; early = Early.Over })))
+    ∙ ap (λ (times : Times). prints [] (Some (record { bench = timed times old; early = Early.Over })))
     (one_times x.times y.times (x.times_are ∙ sym y.times_are))
     ∙ sym y.outcome_is
 
@@ -237,31 +308,31 @@ open_one : (n : ℕ) (line : List ℕ) (found : Option Values) (a b : TerminalOu
 open_one n line None a b x y = x ∙ sym y
 open_one n line (Some v) a b x y = open_as_one v.profile n line v a b x y
 
-is_done_one : (asked : Asked) (old : ManagedState) (a b : TerminalOutcome) → IsDone asked old a → IsDone asked old b → a ≡ b
+is_done_one : (asked : Asked) (old : ForgettingBench) (a b : TerminalOutcome) → IsDone asked old a → IsDone asked old b → a ≡ b
 is_done_one asked old a b x y =
     let one = does_one asked old x.printed y.printed x.new y.new x.does y.does in
     x.outcome_is ∙ ap (λ (printed : List ℕ). prints printed (Some (record { bench = x.new; early = Early.Over }))) one.0
-    ∙ ap (λ (new : ManagedState). prints y.printed (Some (record { bench = new; early = Early.Over }))) one.1 ∙ sym y.outcome_is
+    ∙ ap (λ (new : ForgettingBench). prints y.printed (Some (record { bench = new; early = Early.Over }))) one.1 ∙ sym y.outcome_is
 
-do_at_one : (there : Bool) (n : ℕ) (asked : Asked) (old : ManagedState) (a b : TerminalOutcome) → MayDoAt there n asked old a
+do_at_one : (there : Bool) (n : ℕ) (asked : Asked) (old : ForgettingBench) (a b : TerminalOutcome) → MayDoAt there n asked old a
     → MayDoAt there n asked old b → a ≡ b
 do_at_one false n asked old a b x y = x ∙ sym y
 do_at_one true n asked old a b x y = is_done_one asked old a b x y
 
-do_one : (n : ℕ) (line : List ℕ) (found : Option Asked) (old : ManagedState) (a b : TerminalOutcome) → MayDo n line found old a
+do_one : (n : ℕ) (line : List ℕ) (found : Option Asked) (old : ForgettingBench) (a b : TerminalOutcome) → MayDo n line found old a
     → MayDo n line found old b → a ≡ b
 do_one n line None old a b x y = x ∙ sym y
-do_one n line (Some asked) old a b x y = do_at_one (is_below (length old.bench.links) (link_in asked)) n asked old a b x y
+do_one n line (Some asked) old a b x y = do_at_one (is_below (length old.managed.bench.links) (link_in asked)) n asked old a b x y
 
-time_one : (n : ℕ) (line : List ℕ) (told : Option LinkTimes) (old : ManagedState) (a b : TerminalOutcome) → MayTime n line told old a
+time_one : (n : ℕ) (line : List ℕ) (told : Option LinkTimes) (old : ForgettingBench) (a b : TerminalOutcome) → MayTime n line told old a
     → MayTime n line told old b → a ≡ b
 time_one n line None old a b x y = do_one n line (asked_of line) old a b x y
 time_one n line (Some told) old a b x y = times_one told old a b x y
 
-follow_one : (n : ℕ) (line : List ℕ) (told : Option Lengths) (times : Option LinkTimes) (old : ManagedState) (a b : TerminalOutcome)
+follow_one : (n : ℕ) (line : List ℕ) (told : Option Lengths) (times : Option LinkTimes) (old : ForgettingBench) (a b : TerminalOutcome)
     → MayFollow n line told times old a → MayFollow n line told times old b → a ≡ b
 follow_one n line None times old a b x y = time_one n line times old a b x y
-follow_one n line (Some told) times old a b x y = opens_one old.bench.set.base.state.settings told Early.Times a b x y
+follow_one n line (Some told) times old a b x y = opens_one old.managed.bench.set.base.state.settings told Early.Times a b x y
 
 pub one_outcome : HaveOneOutcome terminal_rules
 one_outcome n None line a b x y = open_one n line (first_line line) a b x y

@@ -32,7 +32,7 @@ abbrev pub RefusedForItsLink : Type 0
 RefusedForItsLink =
     (n m : ℕ) (end : Option EndState) (text : List ℕ) → MayRead n end text (stops (Step m))
     → (at : EndState) × (asked : Asked) × (end ≡ Some at) × (asked_of text ≡ Some asked)
-    × (is_below (length at.bench.bench.links) (link_in asked) ≡ false)
+    × (is_below (length at.bench.managed.bench.links) (link_in asked) ≡ false)
 
 -- LAW: what is told of a set or a link is so
 pub record EveryReasonIsSo : Type 0 where

@@ -120,6 +120,11 @@ is_quiet turn = (turn.messages == 0) && stays turn
 abbrev pub is_silent : TurnAndDeeds → Bool
 is_silent heard = is_quiet heard.turn && (length heard.deeds == 0)
 
+-- WHAT IS SHOWN, one behind another: what a turn did, with the unit that it appended, if any; and the lines of a checkpoint
+pub data Shown : Type 0 where
+  turned : HeardTurn → Shown
+  gone : List ℕ → Shown
+
 -- UNITS THAT WERE APPENDED. A row of units that read the same is one line, with how many they are: it ends where another
 -- unit or another line comes.
 
@@ -128,10 +133,11 @@ abbrev pub leading_at : List ℕ → Option SignalUnit → ℕ → ℕ
 leading_at words None later = later
 leading_at words (Some unit) later = if bytes_eq words (unit_words unit) then 1 + later else 0
 
-abbrev pub leading : List ℕ → List HeardTurn → ℕ
+abbrev pub leading : List ℕ → List Shown → ℕ
 leading words [] = 0
-leading words (heard ∷ more) =
+leading words (turned heard ∷ more) =
     if is_silent heard.turn then leading_at words heard.unit (leading words more) else 0
+leading words (gone lines ∷ more) = 0
 
 abbrev pub times_words : ℕ → List ℕ
 times_words times = if times == 1 then [] else codes " x" ++ decimal times
@@ -145,7 +151,7 @@ abbrev pub stands_in : Option (List ℕ) → List ℕ → Bool
 stands_in None words = false
 stands_in (Some before) words = bytes_eq before words
 
-abbrev pub unit_line : ℕ → Option (List ℕ) → Option SignalUnit → List HeardTurn → List ℕ
+abbrev pub unit_line : ℕ → Option (List ℕ) → Option SignalUnit → List Shown → List ℕ
 unit_line link before None more = []
 unit_line link before (Some unit) more =
     if stands_in before (unit_words unit) then [] else row_line link (unit_words unit) (1 + leading (unit_words unit) more)
@@ -158,17 +164,25 @@ words_or (Some unit) before = Some (unit_words unit)
 abbrev pub row_behind : Option (List ℕ) → TurnAndDeeds → Option (List ℕ)
 row_behind before turn = if is_silent turn then before else None
 
--- what these turns show, behind a row of units that read so, if there is one
-abbrev pub shown_behind : ℕ → Option (List ℕ) → List HeardTurn → List ℕ
+-- what these show, behind a row of units that read so, if there is one
+abbrev pub shown_behind : ℕ → Option (List ℕ) → List Shown → List ℕ
 shown_behind link before [] = []
-shown_behind link before (heard ∷ more) =
+shown_behind link before (gone lines ∷ more) = lines ++ shown_behind link None more
+shown_behind link before (turned heard ∷ more) =
     turn_lines link heard.turn ++ (unit_line link (row_behind before heard.turn) heard.unit more
     ++ shown_behind link (words_or heard.unit (row_behind before heard.turn)) more)
 
--- WHAT TURNS SHOW
-abbrev pub shown : ℕ → List HeardTurn → List ℕ
-shown link heard = shown_behind link None heard
+-- WHAT A LINE'S TURNS SHOW
+abbrev pub shown : ℕ → List Shown → List ℕ
+shown link items = shown_behind link None items
 
 -- the same without the units
-abbrev pub without_unit : HeardTurn → HeardTurn
-without_unit heard = record { turn = heard.turn; unit = None }
+abbrev pub without_unit : Shown → Shown
+without_unit (turned heard) = turned (record { turn = heard.turn; unit = None })
+without_unit (gone lines) = gone lines
+
+-- the turns among them
+abbrev pub turns_among : List Shown → List HeardTurn
+turns_among [] = []
+turns_among (turned heard ∷ more) = heard ∷ turns_among more
+turns_among (gone lines ∷ more) = turns_among more

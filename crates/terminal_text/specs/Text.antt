@@ -21,6 +21,8 @@ use Rattle.text_forms.specs.Times.{LinkTimes, link_times_of, times_of}
 use Rattle.text_forms.specs.declared.early.Early.{Early}
 use Rattle.text_forms.specs.declared.asked.Asked.{Asked}
 use Rattle.terminal_text.specs.Answers.{Does, is_below, link_in}
+use Rattle.terminal_text.specs.Forgetting.{unasked}
+use Rattle.terminal_text.specs.declared.forgetting.ForgettingBench.{ForgettingBench}
 use Rattle.terminal_text.specs.declared.open_end.End.{End as EndState}
 use Rattle.terminal_text.specs.declared.fault.TerminalFault.{TerminalFault}
 use Rattle.terminal_text.specs.declared.fault.TerminalFault.TheVariants.{Step, Text}
@@ -65,7 +67,7 @@ usual = record { t1 = 360000; t2 = 400000; t3 = 12000; t5 = 800; t6 = 32000; t7 
 abbrev pub usual_times : LinkTimes
 usual_times = record { t1 = 6400; t2 = 11200; t4 = 6400; t5 = 6400; t17 = 8000; k1 = 64000; k2 = 480000 }
 
--- level 3 manages no link yet
+-- level 3 manages no link yet, and nobody asked for checkpoints
 abbrev pub opened_end : BenchState → ℕ → Times → ManagedState
 opened_end bench links times = record { bench = bench; kept = all_fresh times links }
 
@@ -76,20 +78,23 @@ pub record Opens (settings : Settings) (told : Lengths) (early : Early) (outcome
   pub lengths_are : timers_of lengths ≡ told
   pub times_are : times_of times ≡ usual_times
   pub outcome_is : outcome
-      ≡ prints [] (Some (record { bench = opened_end (opened_bench settings lengths) settings.links times; early = early }))
+      ≡ prints [] (Some (record { bench = unasked (opened_end (opened_bench settings lengths) settings.links times); early = early }))
 
 -- the same of the end itself, whose timers are told
 pub record IsOpenedAnew (lengths : Timers) (settings : Settings) (end : EndState) : Type 0 where
   pub times : Times
   pub times_are : times_of times ≡ usual_times
-  pub end_is : end ≡ record { bench = opened_end (opened_bench settings lengths) settings.links times; early = Early.Times }
+  pub end_is : end ≡ record { bench = unasked (opened_end (opened_bench settings lengths) settings.links times); early = Early.Times }
 
 -- level 3 has these times
-pub record SetsTimes (told : LinkTimes) (old : ManagedState) (outcome : TerminalOutcome) : Type 0 where
+abbrev pub timed : Times → ForgettingBench → ForgettingBench
+timed times old = record { managed = opened_end old.managed.bench (length old.managed.bench.links) times; plan = old.plan }
+
+pub record SetsTimes (told : LinkTimes) (old : ForgettingBench) (outcome : TerminalOutcome) : Type 0 where
   pub times : Times
   pub times_are : times_of times ≡ told
   pub outcome_is : outcome
-      ≡ prints [] (Some (record { bench = opened_end old.bench (length old.bench.links) times; early = Early.Over }))
+      ≡ prints [] (Some (record { bench = timed times old; early = Early.Over }))
 
 -- THE FIRST LINE opens the end, of the narrow profile
 abbrev pub MayOpenAs : Profile → ℕ → List ℕ → Values → TerminalOutcome → Type 0
@@ -101,28 +106,28 @@ MayOpen n line None outcome = outcome ≡ stops (Text n (flaw_of line))
 MayOpen n line (Some v) outcome = MayOpenAs v.profile n line v outcome
 
 -- A LATER LINE does what it asks for, of a link that is there
-pub record IsDone (asked : Asked) (old : ManagedState) (outcome : TerminalOutcome) : Type 0 where
+pub record IsDone (asked : Asked) (old : ForgettingBench) (outcome : TerminalOutcome) : Type 0 where
   pub printed : List ℕ
-  pub new : ManagedState
+  pub new : ForgettingBench
   pub does : Does asked old printed new
   pub outcome_is : outcome ≡ prints printed (Some (record { bench = new; early = Early.Over }))
 
-abbrev pub MayDoAt : Bool → ℕ → Asked → ManagedState → TerminalOutcome → Type 0
+abbrev pub MayDoAt : Bool → ℕ → Asked → ForgettingBench → TerminalOutcome → Type 0
 MayDoAt false n asked old outcome = outcome ≡ stops (Step n)
 MayDoAt true n asked old outcome = IsDone asked old outcome
 
-abbrev pub MayDo : ℕ → List ℕ → Option Asked → ManagedState → TerminalOutcome → Type 0
+abbrev pub MayDo : ℕ → List ℕ → Option Asked → ForgettingBench → TerminalOutcome → Type 0
 MayDo n line None old outcome = outcome ≡ stops (Text n (flaw_of line))
-MayDo n line (Some asked) old outcome = MayDoAt (is_below (length old.bench.links) (link_in asked)) n asked old outcome
+MayDo n line (Some asked) old outcome = MayDoAt (is_below (length old.managed.bench.links) (link_in asked)) n asked old outcome
 
 -- right behind the first line the timers may be told, and level 3's times there or behind the timers
-abbrev pub MayTime : ℕ → List ℕ → Option LinkTimes → ManagedState → TerminalOutcome → Type 0
+abbrev pub MayTime : ℕ → List ℕ → Option LinkTimes → ForgettingBench → TerminalOutcome → Type 0
 MayTime n line None old outcome = MayDo n line (asked_of line) old outcome
 MayTime n line (Some told) old outcome = SetsTimes told old outcome
 
-abbrev pub MayFollow : ℕ → List ℕ → Option Lengths → Option LinkTimes → ManagedState → TerminalOutcome → Type 0
+abbrev pub MayFollow : ℕ → List ℕ → Option Lengths → Option LinkTimes → ForgettingBench → TerminalOutcome → Type 0
 MayFollow n line None times old outcome = MayTime n line times old outcome
-MayFollow n line (Some told) times old outcome = Opens old.bench.set.base.state.settings told Early.Times outcome
+MayFollow n line (Some told) times old outcome = Opens old.managed.bench.set.base.state.settings told Early.Times outcome
 
 abbrev pub told_lengths : Early → List ℕ → Option Lengths
 told_lengths Early.Both line = lengths_of line
@@ -144,7 +149,7 @@ early_in end = option_map (λ e. e.early) end
 -- how the end stands
 abbrev pub at_the_end : Option EndState → List ℕ
 at_the_end None = []
-at_the_end (Some end) = end_text A (counts_in end.bench.bench.set.state)
+at_the_end (Some end) = end_text A (counts_in end.bench.managed.bench.set.state)
 
 abbrev pub terminal_rules : TalkRules (Option EndState) TerminalFault
 terminal_rules = record {

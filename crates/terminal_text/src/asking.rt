@@ -1,22 +1,22 @@
 //! What a line asks for, done.
 ghost use Rattle.std.specs.Prelude.{◌≡◌, ◌<◌, ◌≤◌, IfOk, length, true};
 ghost use Rattle.set_model.specs.History.{IsActor};
-ghost use Rattle.text_forms.specs.declared.asked.Asked.TheVariants.{Checkpoint, History};
+ghost use Rattle.text_forms.specs.declared.asked.Asked.TheVariants.{Forget};
 ghost use Rattle.terminal_text.specs.Looking.{IsLookAt};
-ghost use Rattle.terminal_text.specs.Answers.{Asks, CommandsBy, Does, Looks, asker, gone_text, is_below, is_refused, link_in, link_of_event};
+ghost use Rattle.terminal_text.specs.Answers.{Asks, Checkpoints, CommandsBy, Does, Looks, TellsHistory, asker, is_below, is_refused, link_in, link_of_event};
 
 use super::fault::Want;
+use super::forgetting::{Forgetting, ForgettingBench, write_gone};
 use super::hearing::{hear_digits, hear_flags, hear_octets, hear_unit};
 use super::level3::{activate, deactivate};
 use super::words::{Look, write_look};
 use l2_units::Profile;
 use link_term::Command;
-use set_core::SetCore;
 use set_events::{Actor, Event};
-use std::alloc::{AllocError, Global};
+use std::alloc::Global;
 use term_bench::Bench;
 use term_managed::ManagedBench;
-use text_entries::{write_answer, write_entries, write_piece};
+use text_entries::{write_answer, write_entries};
 use text_forms::Asked;
 
 /// The link that is asked for, if one is.
@@ -33,7 +33,7 @@ pub(crate) fn link_of(asked: &Asked) -> Option<u8>
         | Asked::Activate { link }
         | Asked::Deactivate { link } => Some(*link),
         Asked::Event { event } => link_of_event(event),
-        Asked::Checkpoint { .. } | Asked::History => None,
+        Asked::Checkpoint { .. } | Asked::Forget { .. } | Asked::History => None,
     }
 }
 
@@ -60,25 +60,27 @@ fn link_of_event(event: &Event) -> Option<u8>
 /// What a line asks for is done, of a link that is there: what it prints.
 pub(crate) fn ask_bench(
     alloc: Global,
-    bench: &mut ManagedBench,
+    bench: &mut ForgettingBench,
     asked: &Asked,
 ) -> Result<Vec<u8>, Want>
-    requires there { is_below (length bench.old.bench.links) (link_in asked.now) ≡ true }
-    requires few { length bench.old.bench.links ≤ 16 }
+    requires there { is_below (length bench.old.managed.bench.links) (link_in asked.now) ≡ true }
+    requires few { length bench.old.managed.bench.links ≤ 16 }
     ensures { IfOk result (λ text. Does asked.now bench.old text.items bench.new) }
 {
+    let managed = &mut bench.managed;
     match asked {
-        Asked::Command { link, command } => obey(alloc, bench, *link, *command),
+        Asked::Command { link, command } => Ok(obey(alloc, managed, *link, *command)?),
         Asked::Octets { link, octets } => hear_octets(alloc, bench, *link, octets.octets()),
         Asked::Hear { link, unit } => hear_unit(alloc, bench, *link, unit),
         Asked::Flags { link, times } => hear_flags(alloc, bench, *link, *times),
         Asked::Bits { link, bits } => hear_digits(alloc, bench, *link, bits),
-        Asked::Event { event } => ask(alloc, bench, event),
-        Asked::Look { link } => look(alloc, bench, *link),
-        Asked::Activate { link } => activate(alloc, bench, *link),
-        Asked::Deactivate { link } => deactivate(alloc, bench, *link),
-        Asked::Checkpoint { quiet } => checkpoint(alloc, bench, *quiet),
-        Asked::History => history(alloc, bench),
+        Asked::Event { event } => Ok(ask(alloc, managed, event)?),
+        Asked::Look { link } => Ok(look(alloc, managed, *link)?),
+        Asked::Activate { link } => Ok(activate(alloc, managed, *link)?),
+        Asked::Deactivate { link } => Ok(deactivate(alloc, managed, *link)?),
+        Asked::Checkpoint { quiet } => Ok(checkpoint(alloc, managed, *quiet)?),
+        Asked::Forget { every, told } => forget(alloc, bench, *every, *told),
+        Asked::History => Ok(history(alloc, managed)?),
     }
 }
 
@@ -143,7 +145,7 @@ fn look_at(bench: &Bench, link: u8) -> Look
 
 /// A checkpoint: the entries that go, unless it's quiet.
 fn checkpoint(alloc: Global, bench: &mut ManagedBench, quiet: bool) -> Result<Vec<u8>, Want>
-    ensures { IfOk result (λ text. Does (Checkpoint quiet) bench.old text.items bench.new) }
+    ensures { IfOk result (λ text. Checkpoints quiet bench.old text.items bench.new) }
 {
     let mut text = write_gone(alloc, bench.bench().set(), quiet)?;
     text.extend_from_slice(b"done\n")?;
@@ -151,19 +153,22 @@ fn checkpoint(alloc: Global, bench: &mut ManagedBench, quiet: bool) -> Result<Ve
     Ok(text)
 }
 
-/// The entries that go at a checkpoint; nothing where it's quiet.
-fn write_gone(alloc: Global, set: &SetCore, quiet: bool) -> Result<Vec<u8>, AllocError>
-    ensures { IfOk result (λ text. text.items ≡ gone_text quiet set.now.history) }
+/// A checkpoint behind each so many turns from now on.
+fn forget(
+    alloc: Global,
+    bench: &mut ForgettingBench,
+    every: u32,
+    told: bool,
+) -> Result<Vec<u8>, Want>
+    ensures { IfOk result (λ text. Does (Forget every told) bench.old text.items bench.new) }
 {
-    if quiet {
-        return Ok(Vec::new(alloc));
-    }
-    write_piece(alloc, Profile::Narrow, set.history())
+    bench.plan = Forgetting::from_now(every, told);
+    Ok(Vec::from_slice(alloc, b"done\n")?)
 }
 
 /// The entries since the base.
 fn history(alloc: Global, bench: &mut ManagedBench) -> Result<Vec<u8>, Want>
-    ensures { IfOk result (λ text. Does History bench.old text.items bench.new) }
+    ensures { IfOk result (λ text. TellsHistory bench.old text.items bench.new) }
 {
     let mut text = write_entries(alloc, Profile::Narrow, bench.bench().set().history())?;
     text.extend_from_slice(b"done\n")?;

@@ -8,13 +8,13 @@ ghost use Rattle.terminal_text.specs.Hearing.{Exchanging, Hears};
 ghost use Rattle.terminal_text.specs.Showing.{over};
 
 use super::fault::Want;
+use super::forgetting::ForgettingBench;
 use super::rows::Rows;
 use arrayvec::ArrayVec;
 use l2_bits::{flag_into, seal, stuff_into};
 use l2_units::LONGEST_UNIT;
 use link_term::{LastUnit, NoTap};
 use std::alloc::{AllocError, Global};
-use term_managed::ManagedBench;
 use text_base::{push_hex, push_number};
 use text_forms::Repeated;
 
@@ -29,11 +29,11 @@ pub(crate) struct Hearing {
 /// Octets came on this link's line: what their turns show, and the octets that these put.
 pub(crate) fn hear_octets(
     alloc: Global,
-    bench: &mut ManagedBench,
+    bench: &mut ForgettingBench,
     link: u8,
     octets: &[u8],
 ) -> Result<Vec<u8>, Want>
-    requires { link < length bench.old.bench.links }
+    requires { link < length bench.old.managed.bench.links }
     ensures { IfOk result (λ text. Exchanges link octets.now bench.old text.items bench.new) }
 {
     let mut rows = Rows::new(alloc, link);
@@ -48,19 +48,20 @@ pub(crate) fn hear_octets(
 
 /// An octet came: its turn is shown, without its unit, and the octet that it put is kept.
 fn hear_octet(
-    bench: &mut ManagedBench,
+    bench: &mut ForgettingBench,
     link: u8,
     octet: u8,
     rows: &mut Rows,
     put: &mut Vec<u8>,
 ) -> Result<(), Want>
-    requires { link < length bench.old.bench.links }
+    requires { link < length bench.old.managed.bench.links }
     ensures { OnOk result (Exchanging link (bits_of 8 octet ∷ []) bench.old bench.new rows.old rows.new
         put.old.items put.new.items) }
 {
-    let turn = bench.hear_octet(link, octet, &mut NoTap)?;
+    let turn = bench.managed.hear_octet(link, octet, &mut NoTap)?;
     put.push(turn.turn().put)?;
-    rows.show(&turn, None)
+    rows.show(&turn, None)?;
+    bench.end_turn(rows)
 }
 
 /// Adds the octets that were put.
@@ -78,11 +79,11 @@ fn push_put(out: &mut Vec<u8>, link: u8, put: &[u8]) -> Result<(), AllocError>
 /// A unit stood on this link's line, so often.
 pub(crate) fn hear_unit(
     alloc: Global,
-    bench: &mut ManagedBench,
+    bench: &mut ForgettingBench,
     link: u8,
     unit: &Repeated,
 ) -> Result<Vec<u8>, Want>
-    requires { link < length bench.old.bench.links }
+    requires { link < length bench.old.managed.bench.links }
     ensures { IfOk result (λ text. HearsLine link (over unit.now.times (unit_bits unit.now.octets)) bench.old
         text.items bench.new) }
 {
@@ -109,11 +110,11 @@ fn unit_bits(octets: &[u8]) -> ArrayVec<bool, 2700>
 /// So many flags stood on this link's line.
 pub(crate) fn hear_flags(
     alloc: Global,
-    bench: &mut ManagedBench,
+    bench: &mut ForgettingBench,
     link: u8,
     times: u32,
 ) -> Result<Vec<u8>, Want>
-    requires { link < length bench.old.bench.links }
+    requires { link < length bench.old.managed.bench.links }
     ensures { IfOk result (λ text. HearsLine link (over times flag) bench.old text.items bench.new) }
 {
     let mut bits = ArrayVec::new();
@@ -124,11 +125,11 @@ pub(crate) fn hear_flags(
 /// These bits stood on this link's line, so often.
 pub(crate) fn hear_digits(
     alloc: Global,
-    bench: &mut ManagedBench,
+    bench: &mut ForgettingBench,
     link: u8,
     digits: &Repeated,
 ) -> Result<Vec<u8>, Want>
-    requires { link < length bench.old.bench.links }
+    requires { link < length bench.old.managed.bench.links }
     ensures { IfOk result (λ text. HearsLine link (over digits.now.times (bits_in digits.now.octets)) bench.old
         text.items bench.new) }
 {
@@ -146,12 +147,12 @@ fn bits_in(alloc: Global, digits: &[u8]) -> Result<Vec<bool>, AllocError>
 /// Bits stood on this link's line, so often: what their turns show, and how many these are.
 fn hear_bits(
     alloc: Global,
-    bench: &mut ManagedBench,
+    bench: &mut ForgettingBench,
     link: u8,
     bits: &[bool],
     times: u32,
 ) -> Result<Vec<u8>, Want>
-    requires { link < length bench.old.bench.links }
+    requires { link < length bench.old.managed.bench.links }
     ensures { IfOk result (λ text. HearsLine link (over times bits.now) bench.old text.items bench.new) }
 {
     let mut hearing = Hearing {
@@ -170,12 +171,12 @@ fn hear_bits(
 
 /// Bits stood on this link's line.
 fn hear_once(
-    bench: &mut ManagedBench,
+    bench: &mut ForgettingBench,
     link: u8,
     bits: &[bool],
     hearing: &mut Hearing,
 ) -> Result<(), Want>
-    requires { link < length bench.old.bench.links }
+    requires { link < length bench.old.managed.bench.links }
     ensures { OnOk result (Hears link (one_by_one bits.now) bench.old bench.new hearing.old hearing.new) }
 {
     for bit in bits {
@@ -186,22 +187,24 @@ fn hear_once(
 
 /// A bit stood on this link's line: the turn is shown that it may bring.
 fn hear_bit(
-    bench: &mut ManagedBench,
+    bench: &mut ForgettingBench,
     link: u8,
     bit: bool,
     hearing: &mut Hearing,
 ) -> Result<(), Want>
-    requires { link < length bench.old.bench.links }
+    requires { link < length bench.old.managed.bench.links }
     ensures { OnOk result (Hears link ((bit ∷ []) ∷ []) bench.old bench.new hearing.old hearing.new) }
 {
-    let Some(turn) = bench.hear_bit(link, bit, &mut hearing.tap)? else {
+    let Some(turn) = bench.managed.hear_bit(link, bit, &mut hearing.tap)? else {
         return Ok(());
     };
     hearing.turns = one_more(hearing.turns)?;
     if turn.turn().sent == 0 {
-        hearing.rows.show(&turn, None)
+        hearing.rows.show(&turn, None)?;
+        bench.end_turn(&mut hearing.rows)
     } else {
-        hearing.rows.show(&turn, hearing.tap.unit())
+        hearing.rows.show(&turn, hearing.tap.unit())?;
+        bench.end_turn(&mut hearing.rows)
     }
 }
 

@@ -24,6 +24,7 @@
 mod asking;
 mod explaining;
 mod fault;
+mod forgetting;
 mod hearing;
 mod kept;
 mod laws;

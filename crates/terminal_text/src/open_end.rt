@@ -9,7 +9,7 @@ ghost use Rattle.text_forms.specs.declared.early.Early.TheVariants.{Over};
 ghost use Rattle.text_forms.specs.Asking.{asked_of};
 ghost use Rattle.terminal_text.specs.Answers.{is_below, link_in};
 ghost use Rattle.terminal_text.specs.Kept.{StaysAtFault};
-ghost use Rattle.terminal_text.specs.Text.{IsOpenedAnew, MayDo, MayDoAt, MayFollow, MayOpen, MayRead, MayTime, TerminalOutcome, opened_end, told_lengths, told_times};
+ghost use Rattle.terminal_text.specs.Text.{IsOpenedAnew, MayDo, MayDoAt, MayFollow, MayOpen, MayRead, MayTime, TerminalOutcome, timed, told_lengths, told_times};
 ghost use Rattle.terminal_text.specs.declared.fault.TerminalFault.TheVariants.{Text};
 ghost use Rattle.text_lines.specs.Flaws.{flaw_of};
 ghost use Rattle.text_lines.specs.Lines.{prints};
@@ -17,6 +17,7 @@ ghost use Rattle.text_lines.specs.Talking.{IsCarriedOut, MayTell};
 
 use super::asking::{ask_bench, link_of};
 use super::fault::{TerminalFault, Want};
+use super::forgetting::ForgettingBench;
 use l2_units::Profile;
 use l3_link::Times;
 use pair_steps::End as Side;
@@ -34,7 +35,7 @@ use text_lines::{LineFlaw, TalkText, find_flaw};
 /// An end whose set is open.
 #[derive(Drop)]
 pub(crate) struct End {
-    bench: ManagedBench,
+    bench: ForgettingBench,
     /// Which lines of lengths may come next.
     early: Early,
 }
@@ -127,7 +128,11 @@ impl TalkText for Terminal {
 
     fn end(&self, alloc: Global, out: &mut Vec<u8>) -> Result<(), Stop<TerminalFault>> {
         if let Some(end) = &self.end {
-            out.extend_from_slice(&write_end(alloc, Side::A, end.bench.bench().set().counts())?)?;
+            out.extend_from_slice(&write_end(
+                alloc,
+                Side::A,
+                end.bench.managed.bench().set().counts(),
+            )?)?;
         }
         Ok(())
     }
@@ -147,8 +152,8 @@ fn open(alloc: Global, number: u64, text: &[u8]) -> Result<End, Stop<TerminalFau
         Profile::Wide => return Err(unread(number, text)),
     }
     match ManagedBench::new(alloc, &opening.a, USUAL_TIMERS, Times::USUAL) {
-        Ok(bench) => Ok(End {
-            bench,
+        Ok(managed) => Ok(End {
+            bench: ForgettingBench::new(managed),
             early: Early::Both,
         }),
         Err(_) => Err(Stop::Memory),
@@ -231,14 +236,14 @@ fn find_times(early: Early, text: &[u8]) -> Option<Times>
 /// Level 3 has these times.
 fn set_times(
     alloc: Global,
-    bench: &mut ManagedBench,
+    bench: &mut ForgettingBench,
     times: Times,
 ) -> Result<(), Stop<TerminalFault>>
     ensures { MatchResult result
-        (λ done. bench.new ≡ opened_end bench.old.bench (length bench.old.bench.links) times)
+        (λ done. bench.new ≡ timed times bench.old)
         (λ stop. stop ≡ Memory) }
 {
-    match bench.set_times(alloc, times) {
+    match bench.managed.set_times(alloc, times) {
         Ok(()) => Ok(()),
         Err(_) => Err(Stop::Memory),
     }
@@ -247,17 +252,17 @@ fn set_times(
 /// The end is opened anew, with timers of these lengths.
 fn set_timers(alloc: Global, end: &mut End, lengths: Timers) -> Result<(), Stop<TerminalFault>>
     ensures { MatchResult result
-        (λ done. IsOpenedAnew lengths end.old.bench.bench.set.base.state.settings end.new)
+        (λ done. IsOpenedAnew lengths end.old.bench.managed.bench.set.base.state.settings end.new)
         (λ stop. stop ≡ Memory) }
 {
     match ManagedBench::new(
         alloc,
-        end.bench.bench().set().config(),
+        end.bench.managed.bench().set().config(),
         lengths,
         Times::USUAL,
     ) {
-        Ok(bench) => {
-            end.bench = bench;
+        Ok(managed) => {
+            end.bench = ForgettingBench::new(managed);
             end.early = Early::Times;
             Ok(())
         }
@@ -268,7 +273,7 @@ fn set_timers(alloc: Global, end: &mut End, lengths: Timers) -> Result<(), Stop<
 /// What a line asks for is done, and what it prints is appended.
 fn answer(
     alloc: Global,
-    bench: &mut ManagedBench,
+    bench: &mut ForgettingBench,
     number: u64,
     text: &[u8],
     out: &mut Vec<u8>,
@@ -287,16 +292,16 @@ fn answer(
 /// The same, of what it asks for.
 fn answer_to(
     alloc: Global,
-    bench: &mut ManagedBench,
+    bench: &mut ForgettingBench,
     number: u64,
     asked: &Asked,
     out: &mut Vec<u8>,
 ) -> Result<(), Stop<TerminalFault>>
-    ensures carried { IsCarriedOut result (MayDoAt (is_below (length bench.old.bench.links) (link_in asked.now)) number asked.now
+    ensures carried { IsCarriedOut result (MayDoAt (is_below (length bench.old.managed.bench.links) (link_in asked.now)) number asked.now
         bench.old) out.old.items out.new.items (Some (record { bench = bench.new; early = Over })) }
     ensures stays { StaysAtFault result bench.old bench.new }
 {
-    if !is_there(bench.bench().links(), link_of(asked)) {
+    if !is_there(bench.managed.bench().links(), link_of(asked)) {
         return Err(Stop::Input(TerminalFault::Step { line: number }));
     }
     match ask_bench(alloc, bench, asked) {

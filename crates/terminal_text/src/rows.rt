@@ -1,13 +1,16 @@
 //! What the turns of one line of the input show, as it's printed.
-ghost use Rattle.std.specs.Prelude.{◌≡◌, ◌++◌, [], ◌∷◌, None, IfOk, OnOk};
+ghost use Rattle.std.specs.Prelude.{◌≡◌, ◌++◌, [], ◌∷◌, None, false, IfOk, OnOk};
 ghost use Rattle.std.specs.Option.{option_map};
+ghost use Rattle.terminal_text.specs.Forgetting.{gone_text};
+ghost use Rattle.terminal_text.specs.Showing.{gone, turned};
 ghost use Rattle.terminal_text.specs.Rows.{AddsUnit, EndsRow, Shows, ShowsTurn, left_of};
 
 use super::fault::Want;
+use super::forgetting::write_gone;
 use super::words::{is_silent, push_row, push_turn};
 use l2_units::Unit;
 use std::alloc::Global;
-use term_managed::ManagedTurn;
+use term_managed::{ManagedBench, ManagedTurn};
 use text_base::is_word;
 use text_units::push_unit_words;
 
@@ -44,8 +47,8 @@ impl Rows {
 
     /// Shows what a turn did, and the unit that it appended, if it did and units are shown.
     pub(crate) fn show(&mut self, turn: &ManagedTurn, unit: Option<&Unit>) -> Result<(), Want>
-        ensures { OnOk result (Shows self.old (record { turn = turn.now; unit = option_map (λ u. u.now) unit.entry } ∷ [])
-            self.new) }
+        ensures { OnOk result (Shows self.old
+            (turned (record { turn = turn.now; unit = option_map (λ u. u.now) unit.entry }) ∷ []) self.new) }
     {
         self.show_lines(turn)?;
         match unit {
@@ -94,6 +97,17 @@ impl Rows {
             push_row(&mut self.text, self.link, &row.words, row.times)?;
         }
         self.row = None;
+        Ok(())
+    }
+
+    /// Shows the entries that go at a checkpoint of this end's set: the row ends before them.
+    #[tactic(auto, using(crate::proofs::RowLemmas::gone_shown))]
+    pub(crate) fn show_gone(&mut self, managed: &ManagedBench) -> Result<(), Want>
+        ensures { OnOk result (Shows self.old (gone (gone_text false managed.now.bench.set.history) ∷ []) self.new) }
+    {
+        let lines = write_gone(self.alloc, managed.bench().set(), false)?;
+        self.end_row()?;
+        self.text.extend_from_slice(&lines)?;
         Ok(())
     }
 

@@ -11,11 +11,11 @@ use Rattle.text_forms.specs.declared.asked.OfLink.TheVariants.{Look as Looking, 
 use Rattle.text_forms.specs.declared.at_link.LinkEvent.TheVariants.{NoAnswer, Timed, Restore, Redeclare, BackTimeout, Test}
 use Rattle.text_forms.specs.declared.mistake.Mistake.{Mistake}
 use Rattle.text_forms.specs.declared.mistake.Mistake.TheVariants.{SecondSet, Terminal}
-use Rattle.text_forms.specs.declared.named.Named.TheVariants.{Times, Flags}
-use Rattle.text_forms.specs.declared.terminal_mistake.TerminalMistake.TheVariants.{UnknownWord, TimersPlace, Level3Place, LinkWants, OctetsWants, HearWants, FlagsWants, BitsWants, FindWants}
+use Rattle.text_forms.specs.declared.named.Named.TheVariants.{Times, Flags, Turns}
+use Rattle.text_forms.specs.declared.terminal_mistake.TerminalMistake.TheVariants.{UnknownWord, TimersPlace, Level3Place, LinkWants, OctetsWants, HearWants, FlagsWants, BitsWants, FindWants, ForgetWants}
 use Rattle.text_forms.specs.declared.words.Blame.{Blame}
 use Rattle.text_forms.specs.Words.{Read, Rest, at_place, at_place_or, at_end, behind_name, first_word, judged, read_then}
-use Rattle.text_forms.specs.Places.{a_link, a_named, a_number, a_quiet, bits as bits_place, octets as octets_place}
+use Rattle.text_forms.specs.Places.{a_link, a_named, a_number, a_quiet, a_told, bits as bits_place, octets as octets_place}
 use Rattle.text_forms.specs.Moves.{event_on}
 use Rattle.text_forms.specs.Timers.{timers_read}
 use Rattle.text_forms.specs.Times.{times_read}
@@ -53,6 +53,10 @@ find = at_place a_number (λ number. at_end (Asked.Event (Find number)))
 -- flags L N
 abbrev pub flags : Rest → Read Asked
 flags = at_place a_link (λ link. at_place (a_named Flags) (λ times. at_end (Asked.Flags link times)))
+
+-- forget N, or forget N told
+abbrev pub forget : Rest → Read Asked
+forget = at_place (a_named Turns) (λ every. at_place_or a_told false (λ told. at_end (Asked.Forget every told)))
 
 -- What a word asks of a link: look L, a command, or an event of its terminal.
 
@@ -117,7 +121,8 @@ asked_by name behind =
     else (if bytes_eq name (codes "bits") then bits (behind (Terminal BitsWants))
     else (if bytes_eq name (codes "find") then find (behind (Terminal FindWants))
     else (if bytes_eq name (codes "flags") then flags (behind (Terminal FlagsWants))
-    else asked_of_link (of_link_of name) name behind))))))))
+    else (if bytes_eq name (codes "forget") then forget (behind (Terminal ForgetWants))
+    else asked_of_link (of_link_of name) name behind)))))))))
 
 -- WHAT A LINE ASKS FOR, or the word at fault
 abbrev pub asked_read : List ℕ → Read Asked

@@ -4,7 +4,7 @@ use Rattle.std.specs.Option.{option_and_then}
 use Rattle.text_base.specs.Figures.{number_of}
 use Rattle.text_forms.specs.Words.{value_in}
 use Rattle.text_forms.specs.declared.named.Named.{Named}
-use Rattle.text_forms.specs.declared.named.Named.TheVariants.{T1, T2, T3, T5, T6, T7, T4, T17, K1, K2, Bsn, Bib, Fsn, Fib, Status, FirstStatus, Times, FirstTimes, Flags}
+use Rattle.text_forms.specs.declared.named.Named.TheVariants.{T1, T2, T3, T5, T6, T7, T4, T17, K1, K2, Bsn, Bib, Fsn, Fib, Status, FirstStatus, Times, FirstTimes, Flags, Turns}
 
 -- the name, with its sign
 abbrev pub name_of : Named → List ℕ
@@ -27,8 +27,9 @@ name_of FirstStatus = codes "status="
 name_of Times = codes "x"
 name_of FirstTimes = codes "x"
 name_of Flags = codes ""
+name_of Turns = codes ""
 
--- a timer has a length, and what stands on a line stands there at least once
+-- a timer has a length, what stands on a line stands there at least once, and turns may be none
 abbrev pub least : Named → ℕ
 least Bsn = 0
 least Bib = 0
@@ -36,6 +37,7 @@ least Fsn = 0
 least Fib = 0
 least Status = 0
 least FirstStatus = 0
+least Turns = 0
 least _ = 1
 
 -- numbers of seven bits, a bit, a status of three bits (Q.703 2.2, 11.1), at most 2^20 times, lengths below 2^32
@@ -80,3 +82,4 @@ named_text FirstStatus = codes "here stands status=S, with S 0 to 7, or bsn=B an
 named_text Times = codes "here stands xN, how often, with N 1 to 1048576"
 named_text FirstTimes = codes "here stands xN, how often, with N 1 to 1048576, or bsn=B and the rest of a header"
 named_text Flags = codes "here stands the number of flags, 1 to 1048576"
+named_text Turns = codes "here stands the number of turns, 0 to 4294967295"

@@ -12,7 +12,8 @@ use Rattle.pair_steps.specs.declared.step.End.TheVariants.{A, B}
 use Rattle.text_base.specs.Figures.{number_of, hex_value, octets_of}
 use Rattle.text_forms.specs.declared.mistake.Mistake.{Mistake}
 use Rattle.text_forms.specs.declared.mistake.Mistake.TheVariants.{End, Link, Number, OddDigits, NotHexadecimal, UnitShort, WideUnitShort, UnitLong, UnitLength, WideUnitLength, Terminal}
-use Rattle.text_forms.specs.declared.terminal_mistake.TerminalMistake.TheVariants.{Bits, UnitName, Body, FirstBody, Quiet, Number as NoNumber}
+use Rattle.text_forms.specs.declared.terminal_mistake.TerminalMistake.{TerminalMistake}
+use Rattle.text_forms.specs.declared.terminal_mistake.TerminalMistake.TheVariants.{Bits, UnitName, Body, FirstBody, Quiet, Told, Number as NoNumber}
 use Rattle.text_forms.specs.declared.named.Named.{Named}
 use Rattle.text_forms.specs.Named.{named_of}
 use Rattle.text_forms.specs.Words.{Place, value_in}
@@ -75,12 +76,18 @@ a_unit profile = record { value = unit_of profile; wrong = λ word. wrong_digits
 abbrev pub a_named : Named → Place ℕ
 a_named named = record { value = named_of named; wrong = λ word. Terminal (NoNumber named) }
 
--- quiet, which stands for yes
-abbrev pub quiet_of : List ℕ → Option Bool
-quiet_of word = if bytes_eq word (codes "quiet") then Some true else None
+-- a word that stands for yes
+abbrev pub flag_of : List ℕ → List ℕ → Option Bool
+flag_of name word = if bytes_eq word name then Some true else None
+
+abbrev pub a_flag : List ℕ → TerminalMistake → Place Bool
+a_flag name wrong = record { value = flag_of name; wrong = λ word. Terminal wrong }
 
 abbrev pub a_quiet : Place Bool
-a_quiet = record { value = quiet_of; wrong = λ word. Terminal Quiet }
+a_quiet = a_flag (codes "quiet") Quiet
+
+abbrev pub a_told : Place Bool
+a_told = a_flag (codes "told") Told
 
 -- digits 0 (48) and 1 (49), at least one
 abbrev pub is_bit : ℕ → Bool

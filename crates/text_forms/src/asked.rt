@@ -30,6 +30,9 @@ pub enum Asked {
     Deactivate { link: u8 },
     /// A checkpoint of the set; a quiet one prints no entries.
     Checkpoint { quiet: bool },
+    /// A checkpoint of the set behind each so many turns of all links together, or none any more where that is 0; the
+    /// entries that go are printed where they are to be told.
+    Forget { every: u32, told: bool },
     /// The entries of the set's history since its base.
     History,
 }

@@ -4,7 +4,7 @@ ghost use Rattle.std.specs.Result.{result_err};
 ghost use Rattle.text_forms.specs.Timers.{timers_read};
 ghost use Rattle.text_forms.specs.Times.{times_read};
 ghost use Rattle.text_forms.specs.Words.{IsRead, at_end};
-ghost use Rattle.text_forms.specs.Asking.{asked_read, bits, blamed_line, checkpoint, find, flags, hear, octets, of_link, offered, wrong_first};
+ghost use Rattle.text_forms.specs.Asking.{asked_read, bits, blamed_line, checkpoint, find, flags, forget, hear, octets, of_link, offered, wrong_first};
 
 use super::asked::{Asked, OfLink, Repeated, find_of_link};
 use super::early::Early;
@@ -53,6 +53,9 @@ pub fn read_asked(alloc: Global, text: &[u8]) -> Result<Asked, Unread>
     }
     if is_word(name, b"flags") {
         return Ok(read_flags(behind(TerminalMistake::FlagsWants))?);
+    }
+    if is_word(name, b"forget") {
+        return Ok(read_forget(behind(TerminalMistake::ForgetWants))?);
     }
     match find_of_link(name) {
         Some(what) => Ok(read_of_link(what, behind(TerminalMistake::LinkWants))?),
@@ -176,6 +179,19 @@ fn read_flags(mut words: Words<'_>) -> Result<Asked, Blame>
     Ok(Asked::Flags {
         link,
         times: times as u32,
+    })
+}
+
+/// `forget N`, or `forget N told`
+fn read_forget(mut words: Words<'_>) -> Result<Asked, Blame>
+    ensures { result ≡ forget words.entry }
+{
+    let every = words.named(Named::Turns)?;
+    let told = words.told()?;
+    words.finish()?;
+    Ok(Asked::Forget {
+        every: every as u32,
+        told,
     })
 }
 

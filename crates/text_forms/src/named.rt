@@ -47,6 +47,8 @@ pub enum Named {
     FirstTimes,
     /// How many flags, 1 to 2^20; there is no name before it.
     Flags,
+    /// How many turns, 0 to 2^32 - 1; there is no name before it.
+    Turns,
 }
 
 impl Named {
@@ -84,7 +86,7 @@ impl Named {
             Named::Fib => b"fib=",
             Named::Status | Named::FirstStatus => b"status=",
             Named::Times | Named::FirstTimes => b"x",
-            Named::Flags => b"",
+            Named::Flags | Named::Turns => b"",
         }
     }
 
@@ -98,6 +100,7 @@ impl Named {
             | Named::Fsn
             | Named::Fib
             | Named::Status
+            | Named::Turns
             | Named::FirstStatus => 0,
             _ => 1,
         }
@@ -142,6 +145,7 @@ impl Named {
             Named::FirstTimes =>
                 "here stands xN, how often, with N 1 to 1048576, or bsn=B and the rest of a header",
             Named::Flags => "here stands the number of flags, 1 to 1048576",
+            Named::Turns => "here stands the number of turns, 0 to 4294967295",
         }
     }
 }

@@ -21,7 +21,7 @@ impl<'a> Words<'a> {
     ghost use Rattle.std.specs.Prelude.{◌≡◌, ◌≤◌, ◌^◌, [], IfOk, false};
     ghost use Rattle.text_forms.specs.Words.{behind, next_at, next_or, IsRead};
     ghost use Rattle.text_forms.specs.Named.{least, most};
-    ghost use Rattle.text_forms.specs.Places.{an_end, a_link, a_number, octets, a_unit, a_named, a_quiet, bits, a_body};
+    ghost use Rattle.text_forms.specs.Places.{an_end, a_link, a_number, octets, a_unit, a_flag, a_named, a_quiet, a_told, bits, a_body};
     ghost use Rattle.text_forms.specs.Units.{begins_head};
 
     /// An end, a or b.
@@ -159,14 +159,30 @@ impl<'a> Words<'a> {
         ensures value { result ≡ next_or a_quiet false self.old }
         ensures behind { self.new ≡ behind self.old }
     {
+        self.flag(b"quiet", TerminalMistake::Quiet)
+    }
+
+    /// `told`, or nothing where the line ends.
+    pub(crate) fn told(&mut self) -> Result<bool, Blame>
+        ensures value { result ≡ next_or a_told false self.old }
+        ensures behind { self.new ≡ behind self.old }
+    {
+        self.flag(b"told", TerminalMistake::Told)
+    }
+
+    /// A word that stands for yes, or nothing where the line ends; another word is this mistake.
+    fn flag(&mut self, name: &[u8], wrong: TerminalMistake) -> Result<bool, Blame>
+        ensures value { result ≡ next_or (a_flag name.now wrong) false self.old }
+        ensures behind { self.new ≡ behind self.old }
+    {
         if self.is_done() {
             return Ok(false);
         }
         let word = self.word()?;
-        if is_word(word.octets(), b"quiet") {
+        if is_word(word.octets(), name) {
             Ok(true)
         } else {
-            Err(word.blame(Mistake::Terminal(TerminalMistake::Quiet)))
+            Err(word.blame(Mistake::Terminal(wrong)))
         }
     }
 

@@ -31,6 +31,8 @@ pub enum TerminalMistake {
     BitsWants,
     /// `find` without its number.
     FindWants,
+    /// `forget` without its number.
+    ForgetWants,
     /// Bits that aren't digits 0 and 1.
     Bits,
     /// A unit that is neither of a kind nor octets.
@@ -41,6 +43,8 @@ pub enum TerminalMistake {
     FirstBody,
     /// A word behind `checkpoint` that isn't `quiet`.
     Quiet,
+    /// A word behind the number of `forget` that isn't `told`.
+    Told,
     /// A word that isn't this number in its range.
     Number(Named),
 }
@@ -53,7 +57,7 @@ impl TerminalMistake {
         match self {
             TerminalMistake::Wide => "the set of a terminal has the narrow profile",
             TerminalMistake::UnknownWord =>
-                "a line begins with start, stop, emergency, calm, busy, ease, blind, outage, recover, octets, hear, flags, bits, offer, take, find, noanswer, timed, restore, redeclare, backtimeout, test, activate, deactivate, look, checkpoint or history",
+                "a line begins with start, stop, emergency, calm, busy, ease, blind, outage, recover, octets, hear, flags, bits, offer, take, find, noanswer, timed, restore, redeclare, backtimeout, test, activate, deactivate, look, checkpoint, forget or history",
             TerminalMistake::TimersPlace => "timers is the line behind the first, and no other",
             TerminalMistake::TimersWants =>
                 "timers wants six words behind it: t1=N t2=N t3=N t5=N t6=N t7=N",
@@ -69,6 +73,7 @@ impl TerminalMistake {
             TerminalMistake::FlagsWants => "flags wants a link, and the number of flags",
             TerminalMistake::BitsWants => "bits wants a link, and digits 0 and 1",
             TerminalMistake::FindWants => "find wants the number of a message",
+            TerminalMistake::ForgetWants => "forget wants a number of turns",
             TerminalMistake::Bits => "bits are digits 0 and 1",
             TerminalMistake::UnitName =>
                 "a unit is fisu, lssu, msu, or octets of two hexadecimal digits",
@@ -77,6 +82,7 @@ impl TerminalMistake {
             TerminalMistake::FirstBody =>
                 "here stands body=HEX, 3 to 273 octets of two hexadecimal digits, or bsn=B and the rest of a header",
             TerminalMistake::Quiet => "here stands quiet, where the entries aren't to be printed",
+            TerminalMistake::Told => "here stands told, where the entries are to be printed",
             TerminalMistake::Number(named) => named.text(),
         }
     }

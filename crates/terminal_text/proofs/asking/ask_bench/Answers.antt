@@ -6,5 +6,5 @@ use Rattle.terminal_text.proofs.asking.ask_bench.Goals as goal
 
 pub ask-requires : goal.ask-requires
 ask-requires c =
-    is_actor c.in-Event.event (length c.args.bench.now.bench.links) c.requires.few
-    (subst (λ (asked : Asked). is_below (length c.args.bench.now.bench.links) (link_in asked) ≡ true) c.in-Event.is c.requires.there)
+    is_actor c.in-Event.event (length c.args.bench.now.managed.bench.links) c.requires.few
+    (subst (λ (asked : Asked). is_below (length c.args.bench.now.managed.bench.links) (link_in asked) ≡ true) c.in-Event.is c.requires.there)
