@@ -1,0 +1,4 @@
+pub mod Answering
+pub mod UserLemmas
+pub mod LookLemmas
+pub mod HearingLemmas

@@ -1,0 +1,5 @@
+pub mod Codes
+pub mod Opening
+pub mod Calls
+pub mod Hearing
+pub mod Looking

@@ -1,0 +1,28 @@
+//! Calls of one end of a set of links, by numbers, for programs in other languages.
+//!
+//! Each call takes an end ([`ManagedBench`](term_managed::ManagedBench)), numbers and octets, tests them all, and answers what
+//! it did or a [`CallFault`], whose numbers are fixed. Where a link, a user or a command isn't there, or a room is too small,
+//! nothing is done. It reads no clock, waits for nothing and does no IO.
+//!
+//! | call | what it does |
+//! |---|---|
+//! | [`open`] | makes an end of these settings |
+//! | [`command`], [`activate`], [`deactivate`] | tell a link's terminal, or its management |
+//! | [`hear`] | hears octets that came on a link's line: as many are put |
+//! | [`offer`], [`take`], [`find`] | a user's calls |
+//! | [`look`] | tells how a link stands |
+//! | [`checkpoint`] | lets the history begin anew |
+#![tactic(auto)]
+
+mod codes;
+mod fault;
+mod hearing;
+mod links;
+mod opening;
+mod users;
+
+pub use fault::CallFault;
+pub use hearing::{HeardValues, hear};
+pub use links::{LookValues, activate, checkpoint, command, deactivate, look};
+pub use opening::{SetValues, TimeValues, TimerValues, open};
+pub use users::{FoundValues, find, offer, take};
