@@ -1,7 +1,7 @@
 //! One end of a set of SS7 signalling links (ITU-T Q.703, Q.704), octet by octet.
 //!
-//! Safe Rust over a static library whose calls are proved (`include/mtpbank.h`): each call here meets what that header asks of
-//! its caller. An [`End`] starts no thread, waits for nothing, reads no clock and does no I/O: each octet that comes on a link's
+//! Safe Rust over a static library whose calls are proved (`include/mtpbank.h`): each call here meets what that header asks
+//! of its caller. An [`End`] starts no thread, waits for nothing, reads no clock and does no I/O: each octet that comes on a link's
 //! line is a turn of its terminal, which puts one.
 //!
 //! ```
