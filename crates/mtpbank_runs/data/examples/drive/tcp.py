@@ -33,6 +33,7 @@ def ask(words):
 
 print(f"set links=1 method=basic a={own} b={far} sio=80", file=end.stdin)
 ask("activate 0")
+ask(f"forget {60 * SECOND}")  # each minute what is acknowledged leaves the end's memory
 line.sendall(b"\x7e" * 2 * BLOCK)  # what is under way at first: flags
 begun, turns = time.monotonic(), 0
 with suppress(ConnectionError):
@@ -41,8 +42,6 @@ with suppress(ConnectionError):
         for _ in range(heard):
             print(bytes.fromhex(ask("take")[1])[5:].decode())
         heard, turns = 0, turns + len(octets)
-        if turns % (60 * SECOND) == 0:
-            ask("checkpoint quiet")  # what is acknowledged leaves the end's memory
         if select.select([sys.stdin], [], [], 0)[0] and (text := sys.stdin.readline().strip()):
             label = (far | own << 14).to_bytes(4, "little")
             print("--", *ask(f"offer 85{label.hex()}{text.encode().hex()}"))
