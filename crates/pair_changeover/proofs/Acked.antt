@@ -26,14 +26,14 @@ use Rattle.set_model.specs.Changeover.{fate_on, queued, left_by, left_link, out_
 use Rattle.set_model.specs.Control.{Choice, again, first, fill, choice_of, part_of}
 use Rattle.set_model.specs.Rows.{orders_changed, Fate, is_users, is_parked, same_fate, waits, Row, all_with, is_waiting, is_unacked, is_on, is_back, is_back_to, is_parked, stands_back, octets_in, stream_of, turned, changed, moved, appended, with_fate, place, unack, wait, IsNumbered, IsInOrder}
 use Rattle.set_model.specs.Sound.{IsSound}
-use Rattle.set_model.specs.State.{FinishedCounts, all_finished, given, LinkState, State, Settings, has_phase_settled, is_settled, is_up, link_is_settled, new_link, opened_with, fate_at, On, target, window_of, with_link}
-use Rattle.set_model.specs.Step.{with_known, is_msu, after_control, next, offered, rises, rows_sent, step, takes}
+use Rattle.set_model.specs.State.{late_at, FinishedCounts, all_finished, given, LinkState, State, Settings, has_phase_settled, is_settled, is_up, link_is_settled, new_link, opened_with, fate_at, On, target, window_of, with_link}
+use Rattle.set_model.specs.Step.{opened, opened_link, risen, risen_link, with_known, is_msu, after_control, next, offered, rises, rows_sent, step, takes}
 use Rattle.std.proofs.lemmas.Bool.{cond_both}
 use Rattle.set_model.proofs.Ahead.{put_length, put_out, numbered_put}
 use Rattle.set_model.proofs.Events.{sent_by, ChangesOn, acknowledged, appended_out, unparked, withdrawn_rows}
 use Rattle.set_model.proofs.Events as events
 use Rattle.set_model.proofs.Rows.{picked_there, with_number, numbered_appended, turned_there, turned_left, turned_same, changed_left, at_most_one, moved_length, moved_numbered, moved_same, new_row}
-use Rattle.set_model.proofs.Lists.{get_set_same, get_set_other, same_at, within}
+use Rattle.set_model.proofs.Lists.{set_twice, get_set_same, get_set_other, same_at, within}
 use Rattle.set_model.proofs.Places.{false_true, itself, apart_back, on_other, not_on_unacked, back_not_on, code_back, home_back}
 use Rattle.set_model.proofs.Staying.{acked_few, not_sent, offered_out}
 use Rattle.set_model.proofs.Settling.{settled_empty}
@@ -383,6 +383,27 @@ module _ (l : ℕ) (sent : List Message) where
       (turned_stay (Acked l) (is_waiting n) refl (Discarded NoAnswerCame) count s.rows) refl
       (turned_same (is_waiting n) (is_unacked l) (Discarded NoAnswerCame) refl (λ f e. grind arith) count s.rows) a
 
+  -- a link opens, and what was parked waits for it
+  opens_any : (n : ℕ) (link : LinkState) (s : State) → IsAt n link Up s → AckedFirst l sent s → AckedFirst l sent (opened n link s)
+  opens_any n link s at a = by_link n (λ m. IsAt m link Up s → AckedFirst l sent (opened m link s)) own others at
+    where
+      numbers_stay : (m : ℕ) → IsNumbered (given (opened m link s)) (opened m link s).rows
+      numbers_stay m = let u = unparked m s.rows in numbered_on s (opened m link s) refl u.kept.count (u.kept.numbered (given s) a.numbered)
+
+      stays : (m : ℕ) → Stays (Acked l) s.rows (opened m link s).rows
+      stays m = moved_stay (Acked l) is_parked refl (given s) (all_with (Waiting m)) s.rows a.numbered
+
+      own : IsAt l link Up s → AckedFirst l sent (opened l link s)
+      own here =
+          let now = at_link s link here.there a in
+          own_set s (opened l link s) link (opened_link link) here.there refl (numbers_stay l) now.0
+          (still l s.rows (opened l link s).rows (stays l) (take link.acked sent) now.1)
+          (λ e. subst (λ (rows : List Row). (messages rows ≡ drop link.acked sent) ⊎ ((link.phase ≡ Down) × (rows ≡ [])))
+          (sym (unparked l s.rows).unack_same) (a.going link here.there (ap has_phase_settled here.phase_is)))
+
+      others : (n == l) ≡ false → IsAt n link Up s → AckedFirst l sent (opened n link s)
+      others d here = goes_on s (opened n link s) (numbers_stay n) (stays n) (other_set n _ s.links d) (((unparked n s.rows).others l d).unack_same) a
+
   -- whatever small change is made
   pub small : (Known : ℕ → Type 0) (May : Type 0) → KeptBy Known May (λ s t. AckedFirst l sent s → AckedFirst l sent t)
   small Known May = record {
@@ -428,6 +449,7 @@ module _ (l : ℕ) (sent : List Message) where
     redeclares = λ code via s due a. appends s (redeclared_on code (Some via) s) _ (fate_at (On via) s) refl (offered_out l (On via) s) refl refl a;
     acknowledges_back = λ code s known a. turns (is_back code) (all_with (Waiting _)) s (acknowledged_code code s) refl refl (code_back code) (λ row. refl) refl refl a;
     releases = λ code s known a. turns (is_back code) (all_with (Waiting _)) s (released code s) refl refl (code_back code) (λ row. refl) refl refl a;
+    opens = λ n link s known at shut u a. opens_any n link s at a;
   }
 
   pub settles_kept : (reached : Reached) (n : ℕ) (link : LinkState) (s : State) → IsAt n link Down s
@@ -547,9 +569,10 @@ module _ (l : ℕ) (sent : List Message) (s : State) where
 
       own : IsAt l link Settled s → AckedFirst l [] (rises l s Settled).state
       own here =
+          let new = risen_link s.settings.profile s.settings.method (late_at l s) in
           let none : unack l (rises l s Settled).state.rows ≡ [] = (unparked l s.rows).unack_same
           ∙ (settled_empty s l link sound here.there here.phase_is).unack_none in
-          own_set l [] s (rises l s Settled).state link _ here.there refl
+          own_set l [] s (rises l s Settled).state link (opened_link new) here.there (set_twice s.links l new (opened_link new))
           (numbered_on s (rises l s Settled).state refl (unparked l s.rows).kept.count
           ((unparked l s.rows).kept.numbered (given s) a.numbered)) (omega arith) (All-nil _)
           (λ e. inl (ap messages none))
@@ -562,7 +585,7 @@ module _ (l : ℕ) (sent : List Message) (s : State) where
           (numbered_on s (rises n s Settled).state refl (unparked n s.rows).kept.count
           ((unparked n s.rows).kept.numbered (given s) a.numbered))
           (moved_stay (Acked l) is_parked refl (given s) (all_with (Waiting n)) s.rows a.numbered)
-          (other_set l sent n _ s.links d) (((unparked n s.rows).others l d).unack_same) a
+          (other_set l sent n _ (risen n s).links d ∙ other_set l sent n _ s.links d) (((unparked n s.rows).others l d).unack_same) a
 
   up_kept : (n : ℕ) → IsSound s → AckedFirst l sent s → AckedFirst l (if is_settled n s then (if l == n then [] else sent) else sent) (step s (UpEvent n)).state
   unfolding step
@@ -594,7 +617,7 @@ module _ (l : ℕ) (sent : List Message) (s : State) where
     takes = λ body rest e there. record { numbered = a.numbered; few = a.few; first = a.first; going = a.going };
     sends = λ n link t e keeps at g. absurd (not_next n e);
     hears = λ n unit link e fits at g. hears_part l sent n unit link s at a;
-    rises = λ n link e at u. absurd (not_up n e);
+    rises = λ n link e at. absurd (not_up n e);
   })
 
 -- what was sent on the link in its present life, or its last one, when the event was asked

@@ -13,7 +13,7 @@ use Rattle.set_route.specs.declared.place.Place.TheVariants.{On, Changing, Nowhe
 use Rattle.set_route.specs.Routing.{place_of}
 use Rattle.set_route.specs.Routing as routes
 use Rattle.set_model.specs.Rows.{Row, stream_of, is_unacked, is_back_to, stands_back, standing, unack, turned, fated}
-use Rattle.set_model.specs.State.{given, LinkState, State, is_up, link_is_up, has_phase_up, fate_at}
+use Rattle.set_model.specs.State.{open_link, given, LinkState, State, is_open, link_is_open, has_phase_up, fate_at}
 use Rattle.set_model.specs.Changeover.{out_of_service, left_by, left_link}
 use Rattle.set_model.proofs.Rows.{turned_same, moved_more}
 use Rattle.set_model.proofs.Lists.{get_set_same, within}
@@ -61,7 +61,7 @@ fated_alike f g same (row ∷ rows) =
 -- a unit was heard on link k, and link l is left
 module _ (k l count : ℕ) (link link' state : LinkState) (s mid : State) (apart : (k == l) ≡ false)
     (there : slice_get s.links k ≡ Some link) (links : mid.links ≡ slice_set s.links k link')
-    (same_up : has_phase_up link'.phase ≡ has_phase_up link.phase)
+    (same_open : open_link link' ≡ open_link link)
     (rows : mid.rows ≡ turned (is_unacked k) (Acked k) count s.rows) (routing : mid.routing ≡ s.routing)
     (state_there : slice_get s.links l ≡ Some state) where
   abbrev out : State
@@ -73,29 +73,29 @@ module _ (k l count : ℕ) (link link' state : LinkState) (s mid : State) (apart
   mid_there : slice_get mid.links l ≡ Some state
   mid_there = other_then k link link' s mid there links l apart ∙ state_there
 
-  mid_up : (n : ℕ) → is_up n mid ≡ is_up n s
-  mid_up n = go (k == n) refl
+  mid_open : (n : ℕ) → is_open n mid ≡ is_open n s
+  mid_open n = go (k == n) refl
     where
-      go : (b : Bool) → (k == n) ≡ b → is_up n mid ≡ is_up n s
-      go true e = subst (λ (m : ℕ). is_up m mid ≡ is_up m s) (eqb-true k n e)
-          (ap link_is_up (own_then k link link' s mid there links) ∙ same_up ∙ ap link_is_up (sym there))
-      go false e = ap link_is_up (other_then k link link' s mid there links n e)
+      go : (b : Bool) → (k == n) ≡ b → is_open n mid ≡ is_open n s
+      go true e = subst (λ (m : ℕ). is_open m mid ≡ is_open m s) (eqb-true k n e)
+          (ap link_is_open (own_then k link link' s mid there links) ∙ same_open ∙ ap link_is_open (sym there))
+      go false e = ap link_is_open (other_then k link link' s mid there links n e)
 
-  out_up : (n : ℕ) → is_up n out_mid ≡ is_up n out
-  out_up n = go (l == n) refl
+  out_open : (n : ℕ) → is_open n out_mid ≡ is_open n out
+  out_open n = go (l == n) refl
     where
-      go : (b : Bool) → (l == n) ≡ b → is_up n out_mid ≡ is_up n out
-      go true e = subst (λ (m : ℕ). is_up m out_mid ≡ is_up m out) (eqb-true l n e)
-          (ap link_is_up (own_then l state (left_link false (given mid) state) mid out_mid mid_there refl)
-          ∙ sym (ap link_is_up (own_then l state (left_link false (given s) state) s out state_there refl)))
+      go : (b : Bool) → (l == n) ≡ b → is_open n out_mid ≡ is_open n out
+      go true e = subst (λ (m : ℕ). is_open m out_mid ≡ is_open m out) (eqb-true l n e)
+          (ap link_is_open (own_then l state (left_link false (given mid) state) mid out_mid mid_there refl)
+          ∙ sym (ap link_is_open (own_then l state (left_link false (given s) state) s out state_there refl)))
       go false e =
-          ap link_is_up (other_then l state (left_link false (given mid) state) mid out_mid mid_there refl n e) ∙ mid_up n
-          ∙ sym (ap link_is_up (other_then l state (left_link false (given s) state) s out state_there refl n e))
+          ap link_is_open (other_then l state (left_link false (given mid) state) mid out_mid mid_there refl n e) ∙ mid_open n
+          ∙ sym (ap link_is_open (other_then l state (left_link false (given s) state) s out state_there refl n e))
 
   fate_alike : (place : Place) → fate_at place out_mid ≡ fate_at place out
   fate_alike Nowhere = refl
   fate_alike (Changing to code via) = refl
-  fate_alike (On n) = ap (λ (b : Bool). cond b (Waiting n) (Held n)) (out_up n)
+  fate_alike (On n) = ap (λ (b : Bool). cond b (Waiting n) (Held n)) (out_open n)
 
   row_alike : (row : Row) → fate_at (place_of (stream_of row.body) out_mid.routing) out_mid ≡ fate_at (place_of (stream_of row.body) out.routing) out
   row_alike row =

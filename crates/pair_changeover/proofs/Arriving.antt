@@ -5,7 +5,7 @@
 -- what was sent there and not accepted (`reaches`), and it stands as if it had been left before the unit came
 -- (Alike.antt), as `Diverts` says it. These are cases of one step; Runs.antt has the induction over the steps.
 use Rattle.l2_window.specs.Window.{fsn_count, fsn_before_first}
-use Rattle.std.proofs.Common.{refl, arith, ◌≡◌, ◌∙◌, ap, sym, subst, ℕ, zero, suc, ◌<◌, ◌==◌, ◌+◌, ◌-◌, ◌%◌, Bool, true, false, List, [], ◌∷◌, ◌++◌, All, length, take, drop, slice_get, Option, Some, None, append_assoc}
+use Rattle.std.proofs.Common.{slice_set, refl, arith, ◌≡◌, ◌∙◌, ap, sym, subst, ℕ, zero, suc, ◌<◌, ◌==◌, ◌+◌, ◌-◌, ◌%◌, Bool, true, false, List, [], ◌∷◌, ◌++◌, All, length, take, drop, slice_get, Option, Some, None, append_assoc}
 use Rattle.std.proofs.lemmas.Bool.{eqb-true}
 use Rattle.l2_units.specs.declared.unit.Unit.{Unit as SignalUnit}
 use Rattle.l3_orders.specs.declared.order.Order.{Order}
@@ -23,11 +23,11 @@ use Rattle.set_model.specs.declared.phase.Phase.TheVariants.{Up, Settled}
 use Rattle.set_model.specs.Rows.{Row, was_discarded, stands_back, is_waiting, is_held, standing, unack, wait, held, parked, place, is_unacked, is_parked, all_with}
 use Rattle.set_model.specs.Sound.{IsSound}
 use Rattle.set_model.specs.State.{late_at, LinkState, State, is_up, is_settled, link_is_up, link_is_settled, has_phase_up, has_phase_settled, target}
-use Rattle.set_model.specs.Step.{with_known, Outcome, brought, risen_link, rises, step}
+use Rattle.set_model.specs.Step.{opened_link, with_known, Outcome, brought, risen_link, rises, step}
 use Rattle.set_model.proofs.Events.{Untouched, acknowledged, unparked}
 use Rattle.set_model.proofs.Rows.{turned_same, moved_same}
 use Rattle.set_model.proofs.Walk.{link_count_stays, IsAt}
-use Rattle.set_model.proofs.Lists.{get_set_same, get_set_other, present, within}
+use Rattle.set_model.proofs.Lists.{set_twice, get_set_same, get_set_other, present, within}
 use Rattle.set_model.proofs.Places.{false_true, itself, back_not_on, back_not_parked, not_on_unacked, not_on_waiting, not_on_held}
 use Rattle.set_model.proofs.Settling.{settled_empty}
 use Rattle.pair_model.specs.Promises.{IsOneMethod}
@@ -331,8 +331,14 @@ module _ (k : ℕ) (s : State) (sound : IsSound s) (link : LinkState) (at : IsAt
   abbrev risen : State
   risen = (rises k s Settled).state
 
-  risen_there : slice_get risen.links k ≡ Some (risen_link s.settings.profile s.settings.method (late_at k s))
-  risen_there = get_set_same s.links k (risen_link s.settings.profile s.settings.method (late_at k s)) (within s.links k link at.there)
+  abbrev new : LinkState
+  new = opened_link (risen_link s.settings.profile s.settings.method (late_at k s))
+
+  risen_links : risen.links ≡ slice_set s.links k new
+  risen_links = set_twice s.links k (risen_link s.settings.profile s.settings.method (late_at k s)) new
+
+  risen_there : slice_get risen.links k ≡ Some new
+  risen_there = ap (λ (ls : List LinkState). slice_get ls k) risen_links ∙ get_set_same s.links k new (within s.links k link at.there)
 
   rises_so : Rises k s risen
   rises_so =
@@ -348,7 +354,7 @@ module _ (k : ℕ) (s : State) (sound : IsSound s) (link : LinkState) (at : IsAt
             s.rows none.held_none ∙ ap (λ (x : List Message). x ++ messages (parked s.rows)) empty;
         others = u.others;
         none_aside = u.parked_none;
-        links = λ l d. get_set_other s.links k l (risen_link s.settings.profile s.settings.method (late_at k s)) (λ same. false_true (k == l) d (rw same (itself l)));
+        links = λ l d. ap (λ (ls : List LinkState). slice_get ls l) risen_links ∙ get_set_other s.links k l new (λ same. false_true (k == l) d (rw same (itself l)));
       }
 
   pub rises_at : Rises k s (step s (UpEvent k)).state

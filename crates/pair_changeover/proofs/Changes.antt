@@ -14,11 +14,11 @@ use Rattle.set_events.specs.declared.answer.Fate.{Fate}
 use Rattle.set_events.specs.declared.answer.Fate.TheVariants.{Waiting, Unacked, Acked, Held, Parked, Back, Discarded}
 use Rattle.set_model.specs.Rows.{Row, is_on, is_waiting, is_unacked, is_held, is_parked, held, parked, unack, appended, put_ahead}
 use Rattle.set_model.specs.Sound.{IsSound}
-use Rattle.set_model.specs.State.{given, LinkState, State, is_up, is_settled, link_is_up, link_is_settled, target}
+use Rattle.set_model.specs.State.{is_open, link_is_open, given, LinkState, State, is_up, is_settled, link_is_up, link_is_settled, target}
 use Rattle.set_model.specs.Changeover.{fate_on, queued}
 use Rattle.set_model.proofs.Ahead.{put_in, put_out}
 use Rattle.set_model.proofs.Events.{untouched}
-use Rattle.set_model.proofs.Lists.{get_set_same, get_set_other, within, target_up}
+use Rattle.set_model.proofs.Lists.{found_up, get_set_same, get_set_other, within, target_open}
 use Rattle.set_model.proofs.Places.{false_true, itself}
 use Rattle.set_model.proofs.Rows.{new_row}
 use Rattle.pair_model.specs.Run.{Message, messages}
@@ -205,6 +205,9 @@ held_none s link sound up = go (slice_get s.links link) refl
     go None e = absurd (let no : false ≡ true = sym (ap link_is_up e) ∙ up in cc)
     go (Some state) e = (sound.links link state e).none_held (sym (ap link_is_up e) ∙ up)
 
+pub held_open : (s : State) (link : ℕ) → IsSound s → is_open link s ≡ true → held link s.rows ≡ []
+held_open s link sound is = held_none s link sound (found_up (slice_get s.links link) is)
+
 -- A NEW MESSAGE that is no order of a changeover
 module _ (s f : State) (body : List ℕ) (t : State) (links : t.links ≡ s.links) (no_order : IsNoOrder body) where
   abbrev fresh_one : Message
@@ -287,7 +290,7 @@ module _ {emergencies : Bool} (s f : State) (order : Order) (sound : IsSound s) 
   z = new_message (given s) body
 
   up_at : (to : ℕ) → target s.links ≡ Some to → is_up to s ≡ true
-  up_at to e = let up = target_up s.links to e in ap link_is_up up.1 ∙ up.2
+  up_at to e = let to_is = target_open s.links to e in found_up (slice_get s.links to) (ap link_is_open to_is.1 ∙ to_is.2)
 
   -- the link that the order is about is no target
   elsewhere : (link : ℕ) (to : Option ℕ) → target s.links ≡ to → is_on link (fate_on to) ≡ true → link ≢ link_of order

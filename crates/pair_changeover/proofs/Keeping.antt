@@ -5,7 +5,7 @@
 -- Changes.antt). Induction is only on the alternatives of Restore (`declares_keep`). Used by Whole.antt, Ordered.antt
 -- and Counted.antt, and by pair_streams's Acting.antt and Counting.antt.
 use Rattle.std.proofs.Common.{refl, ◌≡◌, ◌∙◌, ap, sym, subst, ℕ, zero, suc, ◌<◌, ◌≤◌, ◌==◌, ◌+◌, ◌-◌, Bool, true, false, nat_lt, nat_le, List, [], ◌∷◌, length, slice_get, Option, Some, None, cond}
-use Rattle.std.proofs.lemmas.Bool.{eqb-true}
+use Rattle.std.proofs.lemmas.Bool.{cond_both, eqb-true}
 use Rattle.l3_orders.specs.declared.order.Order.TheVariants.{Cbd}
 use Rattle.l3_orders.specs.Grammar.{text, order_any, link_of}
 use Rattle.l2_units.specs.declared.profile.Profile.{Profile}
@@ -24,16 +24,16 @@ use Rattle.set_model.specs.declared.phase.Phase.{Phase}
 use Rattle.set_model.specs.declared.phase.Phase.TheVariants.{Up, Down, Settled}
 use Rattle.set_model.specs.Rows.{Row, is_waiting, was_discarded, standing, unack, parked, place, stream_of, service_indicator, unsent, octets_in}
 use Rattle.set_model.specs.Sound.{IsSound}
-use Rattle.set_model.specs.State.{given, LinkState, State, Settings, link_count, is_up, is_settled, link_is_up, link_is_settled, has_phase_up, has_phase_settled, last_accepted, fate_at, target, window_of}
+use Rattle.set_model.specs.State.{is_open, link_is_open, open_link, given, LinkState, State, Settings, link_count, is_up, is_settled, link_is_up, link_is_settled, has_phase_up, has_phase_settled, last_accepted, fate_at, target, window_of}
 use Rattle.set_model.specs.Control.{Choice, again, first, fill, choice_of, control_after}
 use Rattle.set_model.specs.Changeover.{fate_on, queued, leaving_order, left_link, left_by, can_declare, declared, declared_from, some_declare, overdue_via, redeclared_from, redeclared_if, redeclared_on}
-use Rattle.set_model.specs.Step.{Outcome, refused, offer_refusal, offered, taken, found, with_known, in_service, falls, comes_back, next, rows_sent, step}
+use Rattle.set_model.specs.Step.{restores, Outcome, refused, offer_refusal, offered, taken, found, with_known, in_service, falls, comes_back, next, rows_sent, step}
 use Rattle.set_model.proofs.Ahead.{put_out}
 use Rattle.set_model.proofs.Events.{Untouched, untouched, sent, appended_out}
 use Rattle.set_model.proofs.Rows.{turned_same}
-use Rattle.set_model.proofs.SoundBack.{leaves, declares, redeclared_sound, alternative_up}
+use Rattle.set_model.proofs.SoundBack.{leaves, declares, redeclared_sound, alternative_open}
 use Rattle.set_model.proofs.Walk.{IsAt, redeclared_at}
-use Rattle.pair_changeover.proofs.Changes.{Both, acts, acts_none, stands_still, offers_acts, IsNew, to_wait, to_hold, to_park, to_back, held_none, queues_both, by_link, own_then}
+use Rattle.pair_changeover.proofs.Changes.{held_open, Both, acts, acts_none, stands_still, offers_acts, IsNew, to_wait, to_hold, to_park, to_back, held_none, queues_both, by_link, own_then}
 use Rattle.pair_changeover.proofs.Leaving.{leaves_acts, leaves_discards, place_not_discarded}
 use Rattle.pair_changeover.proofs.Obeying.{below, not_settled, not_discarded}
 use Rattle.pair_changeover.proofs.Passing.{passing, passing_queues, far_stays}
@@ -74,10 +74,10 @@ users_body p rows body e = go (nat_lt (length body) 5) (nat_lt (longest_body p) 
 fate_new : (s : State) (body : List ℕ) (link : ℕ) → IsSound s → (place : Place) → IsNew 0 link (given s) s.rows body (fate_at place s)
 fate_new s body link sound Nowhere = to_park
 fate_new s body link sound (Changing to code via) = to_back code
-fate_new s body link sound (On k) = go (is_up k s) refl
+fate_new s body link sound (On k) = go (is_open k s) refl
   where
-    go : (b : Bool) → is_up k s ≡ b → IsNew 0 link (given s) s.rows body (cond b (Waiting k) (Held k))
-    go true e = to_wait k (λ same. held_none s link sound (subst (λ (n : ℕ). is_up n s ≡ true) (eqb-true k link same) e))
+    go : (b : Bool) → is_open k s ≡ b → IsNew 0 link (given s) s.rows body (cond b (Waiting k) (Held k))
+    go true e = to_wait k (λ same. held_open s link sound (subst (λ (n : ℕ). is_open n s ≡ true) (eqb-true k link same) e))
     go false e = to_hold k
 
 offer_keeps : {emergencies : Bool} (s f : State) (body : List ℕ) → IsSound s → (o : Option SetRefusal)
@@ -210,9 +210,9 @@ declared_keeps home alternative s f sound can =
     let body = text s.settings.profile (Cbd home (code_for home alternative)) s.settings.sio s.settings.dpc s.settings.opc in
     record {
       both = acts s (declared home alternative s) f (offers_acts s f body (Waiting alternative) (declared home alternative s) refl refl
-          (λ link. to_wait alternative (λ same. held_none s link sound
-          (subst (λ (n : ℕ). is_up n s ≡ true) (eqb-true alternative link same)
-          (alternative_up home alternative s can))))
+          (λ link. to_wait alternative (λ same. held_open s link sound
+          (subst (λ (n : ℕ). is_open n s ≡ true) (eqb-true alternative link same)
+          (alternative_open home alternative s can))))
           (cbd_plain s.settings home (code_for home alternative)));
       settled = λ l. refl;
       acked = λ l g. refl;
@@ -220,21 +220,21 @@ declared_keeps home alternative s f sound can =
       discards = appended_out (given s) s.rows body (Waiting alternative) was_discarded refl;
     }
 
-declares_keep : {emergencies : Bool} (home alternative n : ℕ) (s f : State) → IsSound s → is_up home s ≡ true
+declares_keep : {emergencies : Bool} (home alternative n : ℕ) (s f : State) → IsSound s → is_open home s ≡ true
     → Keeps emergencies s (declared_from home alternative n s) f
 declares_keep {emergencies = emergencies} home alternative zero s f sound up = keeps_still s s f refl refl
 declares_keep {emergencies = emergencies} home alternative (suc n) s f sound up =
     go (can_declare home alternative s) refl (λ t still rising. declares_keep home (suc alternative) n t f still rising)
   where
     go : (b : Bool) → can_declare home alternative s ≡ b
-        → ((t : State) → IsSound t → is_up home t ≡ true
+        → ((t : State) → IsSound t → is_open home t ≡ true
         → Keeps emergencies t (declared_from home (suc alternative) n t) f)
         → Keeps emergencies s (declared_from home alternative (suc n) s) f
     go true e later = rw e (keeps_then s (declared home alternative s) _ f (declared_keeps home alternative s f sound e)
         (later (declared home alternative s) (declares home alternative s up e sound) up))
     go false e later = rw e (later s sound up)
 
-comes_keep : {emergencies : Bool} (k : ℕ) (s f : State) → IsSound s → is_up k s ≡ true → Keeps emergencies s (comes_back k s).state f
+comes_keep : {emergencies : Bool} (k : ℕ) (s f : State) → IsSound s → is_open k s ≡ true → Keeps emergencies s (comes_back k s).state f
 comes_keep {emergencies = emergencies} k s f sound up = go (some_declare k 0 (link_count s) s) refl
   where
     go : (b : Bool) → some_declare k 0 (link_count s) s ≡ b → Keeps emergencies s (comes_back k s).state f
@@ -243,7 +243,9 @@ comes_keep {emergencies = emergencies} k s f sound up = go (some_declare k 0 (li
 
 pub restore_kept : {emergencies : Bool} (k : ℕ) (s f : State) → IsSound s → Keeps emergencies s (step s (Restore k)).state f
 unfolding step
-restore_kept k s f sound = in_keeps k s f (λ link. comes_back k s) (λ link at. comes_keep k s f sound (ap link_is_up at.there ∙ ap has_phase_up at.phase_is))
+restore_kept {emergencies = emergencies} k s f sound = in_keeps k s f (restores k s) (λ link at.
+    cond_both (open_link link) (comes_back k s) (refused s NotUp) (λ (o : Outcome). Keeps emergencies s o.state f)
+    (λ is. comes_keep k s f sound (ap link_is_open at.there ∙ is)) (λ shut. keeps_still s s f refl refl))
 
 -- REDECLARE: declarations come to wait for links that are up, or to be held for one that was left
 redeclared_keeps : {emergencies : Bool} (code : ℕ) (due : Option ℕ) (s f : State) → IsSound s → Keeps emergencies s (redeclared_on code due s) f

@@ -21,12 +21,12 @@ use Rattle.set_model.specs.declared.phase.Phase.TheVariants.{Up, Down}
 use Rattle.set_model.specs.declared.reached.Reached.TheVariants.{Upto, Unknown}
 use Rattle.set_model.specs.Rows.{Row, is_back_to, is_on, is_unacked, was_discarded, standing, unack, wait, parked, put_ahead, turned, all_with, moved}
 use Rattle.set_model.specs.Sound.{IsSound}
-use Rattle.set_model.specs.State.{has_phase_settled, all_finished, given, LinkState, State, is_up, is_settled, link_is_up, link_is_settled, has_phase_up, last_accepted, target}
+use Rattle.set_model.specs.State.{opens_in, open_link, has_phase_settled, all_finished, given, LinkState, State, is_up, is_settled, link_is_up, link_is_settled, has_phase_up, last_accepted, target}
 use Rattle.set_model.specs.Changeover.{settled_link, fate_on, queued, left_link, left_by, out_of_service, acknowledged_code, reached_by, is_reasonable, settled}
 use Rattle.set_model.proofs.Ahead.{put_out}
 use Rattle.set_model.proofs.Events.{untouched}
 use Rattle.set_model.proofs.Rows.{turned_same, moved_length, moved_same}
-use Rattle.set_model.proofs.Lists.{within, map_set_same, same_at, target_up}
+use Rattle.set_model.proofs.Lists.{within, map_set_same, same_at, target_open}
 use Rattle.set_model.proofs.Places.{apart, itself, home_back}
 use Rattle.set_model.proofs.Staying.{offered_out}
 use Rattle.set_model.proofs.Settling.{no_target}
@@ -177,8 +177,8 @@ module _ (fsn l : ℕ) (link : LinkState) (s f : State) (sound : IsSound s) (at 
   -- the target is what it was
   pub same_target : target settled_then.links ≡ target s.links
   same_target = ap target links_after
-      ∙ ap target_of (map_set_same (λ (k : LinkState). has_phase_up k.phase) s.links l link link_after at.there
-      (ap has_phase_up (sym at.phase_is)))
+      ∙ ap target_of (map_set_same (λ (k : LinkState). open_link k) s.links l link link_after at.there
+      (ap (opens_in link.tested) (sym at.phase_is)))
 
   settles_moved : (to : Option ℕ) → target s.links ≡ to
       → messages (queue_for to settled_then.rows) ≡ messages (queue_for to s.rows)
@@ -298,10 +298,10 @@ module _ (l : ℕ) (link : LinkState) (s f : State) (sound : IsSound s) (codes :
   elsewhere to e false f = refl
   elsewhere None e true f = absurd cc
   elsewhere (Some to) e true f =
-      let up = target_up left.links to e in
+      let up = target_open left.links to e in
       let here : slice_get left.links l ≡ Some up.0 = subst (λ (n : ℕ). slice_get left.links n ≡ Some up.0) (eqb-true to l f) up.1 in
       let same : up.0 ≡ left_link false (given s) link = same_at left.links l (left_link false (given s) link) up.0 told_at.there here in
-      let no : true ≡ false = sym up.2 ∙ ap (λ (k : LinkState). has_phase_up k.phase) same in
+      let no : true ≡ false = sym up.2 ∙ ap open_link same in
       absurd cc
 
   pub told_pending : pending l told f ≡ pending l left f

@@ -11,16 +11,16 @@ use Rattle.set_model.specs.declared.phase.Phase.TheVariants.{Up, Down}
 use Rattle.set_model.specs.declared.reached.Reached.TheVariants.{Upto}
 use Rattle.set_model.specs.Rows.{Row, is_on, is_unacked, all_with, unack, held, parked, turned, moved as moved_rows}
 use Rattle.set_model.specs.Sound.{IsSound}
-use Rattle.set_model.specs.State.{LinkState, State, is_up, is_settled, link_is_up, link_is_settled, has_phase_settled, target}
+use Rattle.set_model.specs.State.{link_is_open, LinkState, State, is_up, is_settled, link_is_up, link_is_settled, has_phase_settled, target}
 use Rattle.set_model.specs.Changeover.{fate_on, acknowledged as acknowledged_link, settled_link, reached_by, is_reasonable, settled}
 use Rattle.set_model.proofs.Events.{Untouched, acknowledged, moved_to, left as left_by_rows}
 use Rattle.std.proofs.lemmas.List.{set-set}
-use Rattle.set_model.proofs.Lists.{target_up}
+use Rattle.set_model.proofs.Lists.{found_up, target_open}
 use Rattle.set_model.proofs.Places.{apart}
 use Rattle.set_model.proofs.Settling.{moves_the_rest, no_target}
 use Rattle.set_model.proofs.Walk.{IsAt}
 use Rattle.pair_model.specs.Run.{Message, messages}
-use Rattle.pair_changeover.proofs.Changes.{Both, Acts, far_same, by_link, own_then, other_then, held_none}
+use Rattle.pair_changeover.proofs.Changes.{Both, Acts, far_same, by_link, own_then, other_then, held_open}
 use Rattle.pair_changeover.proofs.Table.{drop_none, queue_untouched, queue_settled, aside_settled, queue_accepted}
 use Rattle.pair_changeover.proofs.Views.{view, pending, aside, queue, acked_of, acked_on, accepted_of, accepted_on, last_of, last_on, Among, among_joined, In, stands_on, stands_aside, NoneAbout, Orders, Came, stayed, moved, CameAside, was_in, Passes, carries}
 
@@ -142,7 +142,7 @@ module _ (fsn n : ℕ) (link : LinkState) (s f : State) (sound : IsSound s) (at 
       ∙ queue_untouched k l s.rows mid (mid_others l d)
 
   held_at : (to : ℕ) → target s.links ≡ Some to → held to s.rows ≡ []
-  held_at to e = let up = target_up s.links to e in held_none s to sound (ap link_is_up up.1 ∙ up.2)
+  held_at to e = let there = target_open s.links to e in held_open s to sound (ap link_is_open there.1 ∙ there.2)
 
   pub joins_target : (k to : ℕ) → target s.links ≡ Some to → queue k to (there_then (Some to)) ≡ queue k to s.rows ++ queue count n s.rows
   joins_target k to e =
@@ -207,8 +207,8 @@ module _ (fsn n : ℕ) (link : LinkState) (s f : State) (sound : IsSound s) (at 
         joined_case to e x (inl a) = stayed a
         joined_case to e x (inr a) =
             let stood : In x (view s f) = stands_on n (subst (λ (q : List Message). Among x q) (sym own_pending) a) in
-            let up = target_up s.links to e in
-            moved stood (λ about. o.near.none_up to (ap link_is_up up.1 ∙ up.2) x stood about)
+            let there = target_open s.links to e in
+            moved stood (λ about. o.near.none_up to (found_up (slice_get s.links to) (ap link_is_open there.1 ∙ there.2)) x stood about)
 
     came_at : (l : ℕ) → At l (pending l after f)
     came_at l m among = go (n == l) refl

@@ -58,6 +58,7 @@ small Known May l = record {
   redeclares = λ code via s due. same_links l s.links;
   acknowledges_back = λ code s known. same_links l s.links;
   releases = λ code s known. same_links l s.links;
+  opens = λ m link s known at shut u. set_links l m link _ s.links at.there refl;
 }
 
 -- what becomes of an accepted body changes no count
@@ -79,7 +80,7 @@ count_stays l s event apart = step_walks s (CountStays l) (CountStays l s) event
   takes = λ body rest e there. same_links l s.links;
   sends = λ m link t e same at g. stays_then l s.links t.links (next m t link).state.links same (set_links l m link _ t.links at.there refl);
   hears = λ m unit link e fits at g. other m (subst (IsApart l) e apart) _;
-  rises = λ m link e at u. other m (subst (IsApart l) e apart) _;
+  rises = λ m link e at. other m (subst (IsApart l) e apart) _;
 })
   where
     other : (m : ℕ) → (m == l) ≡ false → (link' : LinkState) (after : LinkState)

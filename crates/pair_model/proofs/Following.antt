@@ -28,16 +28,16 @@ use Rattle.set_model.specs.declared.phase.Phase.TheVariants.{Up, Down, Settled}
 use Rattle.set_model.specs.declared.reached.Reached.{Reached}
 use Rattle.set_model.specs.declared.reached.Reached.TheVariants.{Upto, Unknown, Unanswered, Unasked}
 use Rattle.set_model.specs.Rows.{Fate, Waiting, Unacked, Acked, Held, Back, Parked, Discarded, place, waits, is_parked, Row, is_unacked, is_back, is_back_to, stands_back, unack, all_with, appended, moved, service_indicator, stream_of}
-use Rattle.set_model.specs.State.{given, LinkState, State, link_count, link_is_up, has_phase_up, has_phase_settled, is_up, fate_at, target, window_of, with_link}
+use Rattle.set_model.specs.State.{given, LinkState, State, link_count, link_is_open, open_link, opens_in, has_phase_up, has_phase_settled, is_open, fate_at, target, window_of, with_link}
 use Rattle.set_model.specs.Control.{part_of}
 use Rattle.set_model.specs.Changeover.{Obeyed, fate_on, answered_link, left_link, acknowledged as acknowledged_link, settled_link, moved_over, queued, out_of_service, left_by, leaving_order, declared, some_declare, acknowledged_code, redeclared_from, redeclared_on, some_overdue, released, released_from, some_in_use, acknowledged_back, is_reasonable, judged, settled, taken_back, changed_over, answered, at_link, order_obeyed, obeyed, reply_of}
-use Rattle.set_model.specs.Step.{Outcome, refused, offer_refusal, offered, is_msu, brought, takes, after_control, controls, heard, falls, gives_up, over_by_time, timed, times_out, comes_back, redeclares, runs_out, with_known, in_service, step}
+use Rattle.set_model.specs.Step.{Outcome, refused, offer_refusal, offered, is_msu, brought, takes, after_control, controls, heard, falls, gives_up, over_by_time, timed, times_out, comes_back, restores, opened_link, redeclares, runs_out, with_known, in_service, step}
 use Rattle.set_model.specs.Frame.{LeavesAlone}
 use Rattle.set_model.proofs.Events.{Untouched, taken_back_rows, acknowledged, moved_to, left as left_by_rows, appended_out, untouched}
 use Rattle.set_model.proofs.Rows.{moved_same}
 use Rattle.set_model.proofs.Framing.{leaves_alone}
 use Rattle.set_model.proofs.Ahead.{put_apart}
-use Rattle.set_model.proofs.Lists.{get_set_same, get_set_other, same_at, within, length_set, target_up}
+use Rattle.set_model.proofs.Lists.{get_set_same, get_set_other, same_at, within, length_set, target_open}
 use Rattle.set_model.proofs.Places.{false_true, itself, apart, not_on_unacked, back_not_on, code_back, home_back}
 use Rattle.set_model.proofs.Staying.{offered_out}
 use Rattle.set_model.proofs.Walk.{IsAt, KeptBy, Touches, settle_walks, declare_walks, again_walks, obeys_walks}
@@ -169,10 +169,10 @@ follows_off told l m link s d at = go (target s.links) refl
   where
     apart_target : (to : ℕ) → target s.links ≡ Some to → (m == to) ≡ false
     apart_target to e =
-        let up = target_up s.links to e in
-        apart m to (λ same. let it : up.0 ≡ link =
-        same_at s.links m link up.0 at.there (ap (slice_get s.links) same ∙ up.1) in let no : true ≡ false =
-        sym up.2 ∙ ap (λ (k : LinkState). has_phase_up k.phase) it ∙ ap has_phase_up at.phase_is in cc)
+        let there = target_open s.links to e in
+        apart m to (λ same. let it : there.0 ≡ link =
+        same_at s.links m link there.0 at.there (ap (slice_get s.links) same ∙ there.1) in let no : true ≡ false =
+        sym there.2 ∙ ap open_link it ∙ ap (opens_in link.tested) at.phase_is in cc)
 
     joins : (to : ℕ) → target s.links ≡ Some to → (b : Bool) → (to == l) ≡ b → Follows l s (moved_over told m link s)
     joins to e false f = follows_set l m (settled_link told link) s (moved_over told m link s) d refl
@@ -206,6 +206,7 @@ others l May = record {
   redeclares = λ code via s due. follows_redeclared l code via s;
   acknowledges_back = λ code s d. follows_acknowledged l code s;
   releases = λ code s d. follows_released l code s;
+  opens = λ m link s d at shut u. follows_set l m (opened_link link) s _ d refl (u.others l d);
 }
 
 -- THE LINK ITSELF SETTLES
@@ -314,9 +315,9 @@ takes_follows l (Some body) s = go (service_indicator body == 0) refl
 pub offered_unsent : (l : ℕ) (place : Place) (s : State) → is_unacked l (fate_at place s) ≡ false
 offered_unsent l Nowhere s = refl
 offered_unsent l (Changing to code via) s = refl
-offered_unsent l (On m) s = go (is_up m s) refl
+offered_unsent l (On m) s = go (is_open m s) refl
   where
-    go : (b : Bool) → is_up m s ≡ b → is_unacked l (fate_at (On m) s) ≡ false
+    go : (b : Bool) → is_open m s ≡ b → is_unacked l (fate_at (On m) s) ≡ false
     go true e = rw e refl
     go false e = rw e refl
 
@@ -437,16 +438,18 @@ timed_follows l m s = on_goes l m s (λ link. times_out m s link link.phase)
     (λ link there. times_goes l m s link link.phase (record { there = there; phase_is = refl }))
 
 -- changeback: declarations come to wait, and what stood back comes to wait at home
-comes_goes : (l m : ℕ) (s : State) → is_up m s ≡ true → Follows l s (comes_back m s).state
-comes_goes l m s up = go (some_declare m 0 (link_count s) s) refl
+comes_goes : (l m : ℕ) (s : State) → is_open m s ≡ true → Follows l s (comes_back m s).state
+comes_goes l m s is = go (some_declare m 0 (link_count s) s) refl
   where
     go : (b : Bool) → some_declare m 0 (link_count s) s ≡ b → Follows l s (comes_back m s).state
-    go true e = rw e (declare_walks (λ k. (k == l) ≡ false) (Unit {0}) (Follows l) (others l (Unit {0})) tt m 0 (link_count s) s up)
+    go true e = rw e (declare_walks (λ k. (k == l) ≡ false) (Unit {0}) (Follows l) (others l (Unit {0})) tt m 0 (link_count s) s is)
     go false e = rw e (follows_same l s)
 
 pub restore_follows : (l m : ℕ) (s : State) → Follows l s (step s (Restore m)).state
 unfolding step
-restore_follows l m s = in_goes l m s (λ link. comes_back m s) (λ link at. comes_goes l m s (ap link_is_up at.there ∙ ap has_phase_up at.phase_is))
+restore_follows l m s = in_goes l m s (restores m s) (λ link at.
+    cond_both (open_link link) (comes_back m s) (refused s NotUp) (λ (o : Outcome). Follows l s o.state)
+    (λ is. comes_goes l m s (ap link_is_open at.there ∙ is)) (λ shut. follows_same l s))
 
 redeclares_goes : (l m : ℕ) (s : State) → Follows l s (redeclares m s).state
 redeclares_goes l m s = cond_both (some_overdue (code_for m 0) 16 s) (record { answer = Done; state = redeclared_from (code_for m 0) 16 s }) (refused s Nothing)

@@ -100,6 +100,7 @@ small_settings Known May = record {
   redeclares = λ code via s due. refl;
   acknowledges_back = λ code s known. refl;
   releases = λ code s known. refl;
+  opens = λ n link s known at shut u. refl;
 }
 
 pub settings_stay : (s : State) (event : Event) → (step s event).state.settings ≡ s.settings
@@ -111,7 +112,7 @@ settings_stay s event = step_walks s (λ t u. u.settings ≡ t.settings) (λ t. 
   takes = λ body rest e there. refl;
   sends = λ n link t e same at g. same;
   hears = λ n unit link e fits at g. refl;
-  rises = λ n link e at u. refl;
+  rises = λ n link e at. refl;
 })
 
 -- AN EVENT at the near end

@@ -6,7 +6,7 @@
 use Rattle.l2_units.specs.declared.profile.Profile.{Profile}
 use Rattle.l2_units.specs.declared.profile.Profile.TheVariants.{Narrow}
 use Rattle.l2_window.proofs.Numbers.{from_zero}
-use Rattle.std.proofs.Common.{refl, ◌≡◌, ◌∙◌, ap, sym, subst, ℕ, true, false, [], slice_get, Option, Some, None}
+use Rattle.std.proofs.Common.{refl, ◌≡◌, ◌∙◌, ap, sym, subst, ℕ, true, false, [], List, slice_get, Option, Some, None}
 use Rattle.l2_window.specs.Link.{End as LinkEnd, World as LinkWorld, Begins, begins}
 use Rattle.set_events.specs.declared.config.Method.{Method}
 use Rattle.set_events.specs.declared.event.Event.TheVariants.{Up as UpEvent}
@@ -16,9 +16,9 @@ use Rattle.set_model.specs.Control.{Control, start_of}
 use Rattle.set_model.specs.Rows.{numbers, unack}
 use Rattle.set_model.specs.Sound.{IsSound}
 use Rattle.set_model.specs.State.{late_at, LinkState, State, has_phase_settled, is_settled, link_is_settled, window_of}
-use Rattle.set_model.specs.Step.{with_known, risen_link, rises, step}
+use Rattle.set_model.specs.Step.{with_known, opened_link, risen_link, rises, step}
 use Rattle.set_model.proofs.Events.{unparked}
-use Rattle.set_model.proofs.Lists.{get_set_same, within, same_at}
+use Rattle.set_model.proofs.Lists.{get_set_same, set_twice, within, same_at}
 use Rattle.set_model.proofs.Settling.{settled_empty}
 use Rattle.set_model.proofs.Walk.{IsAt}
 use Rattle.pair_model.proofs.Controls.{rules}
@@ -46,10 +46,15 @@ module _ (l : ℕ) (q : Profile) (m : Method) (s : State) (sound : IsSound s) (p
   risen = (rises l s Settled).state
 
   abbrev pub fresh : LinkEnd Control
-  fresh = record { control = start_of m; window = window_of l (risen_link q m (late_at l s)) risen.rows; sent = []; took = []; acked = 0 }
+  fresh = record { control = start_of m; window = window_of l (opened_link (risen_link q m (late_at l s))) risen.rows; sent = []; took = []; acked = 0 }
 
-  risen_there : slice_get risen.links l ≡ Some (risen_link q m (late_at l s))
-  risen_there = rw (← profile_of, ← is_of) (get_set_same s.links l (risen_link s.settings.profile s.settings.method (late_at l s)) (within s.links l link at.there))
+  abbrev new : LinkState
+  new = opened_link (risen_link q m (late_at l s))
+
+  risen_there : slice_get risen.links l ≡ Some new
+  risen_there = rw (← profile_of, ← is_of)
+      (ap (λ (ls : List LinkState). slice_get ls l) (set_twice s.links l (risen_link s.settings.profile s.settings.method (late_at l s)) _)
+      ∙ get_set_same s.links l (opened_link (risen_link s.settings.profile s.settings.method (late_at l s))) (within s.links l link at.there))
 
   none_sent : unack l risen.rows ≡ []
   none_sent = (unparked l s.rows).unack_same ∙ (settled_empty s l link sound at.there at.phase_is).unack_none
@@ -59,11 +64,11 @@ module _ (l : ℕ) (q : Profile) (m : Method) (s : State) (sound : IsSound s) (p
 
   pub fresh_goes : Goes l fresh (step s (UpEvent l)).state
   fresh_goes = rw step_is (λ other found unsettled.
-      let same : risen_link q m (late_at l s) ≡ other = sym (same_at risen.links l (risen_link q m (late_at l s)) other risen_there found) in
+      let same : new ≡ other = sym (same_at risen.links l new other risen_there found) in
       subst (λ (k : LinkState). IsGoing l fresh k risen.rows) same (record { control = refl; window = refl; acked = refl }))
 
   pub fresh_counts : Counts l (step s (UpEvent l)).state []
-  fresh_counts = rw step_is (λ other found. ap (λ (k : LinkState). k.accepted) (same_at risen.links l (risen_link q m (late_at l s)) other risen_there found))
+  fresh_counts = rw step_is (λ other found. ap (λ (k : LinkState). k.accepted) (same_at risen.links l new other risen_there found))
 
 -- both ends then, with empty lines
 abbrev pub new_side : State → Side

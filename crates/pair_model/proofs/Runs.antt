@@ -18,8 +18,8 @@ use Rattle.set_events.specs.declared.event.Event.TheVariants.{Offer, Take, Find,
 use Rattle.set_model.specs.declared.phase.Phase.{Phase}
 use Rattle.set_model.specs.declared.phase.Phase.TheVariants.{Up, Down, Settled}
 use Rattle.set_model.specs.Rows.{Fate, place}
-use Rattle.set_model.specs.State.{LinkState, State, has_phase_up, is_up, is_settled, link_is_up, link_count}
-use Rattle.set_model.specs.Step.{Outcome as SetOutcome, refused, offer_refusal, offered, taken, found, with_known, in_service, falls, gives_up, timed, times_out, comes_back, redeclares, runs_out, step}
+use Rattle.set_model.specs.State.{LinkState, State, has_phase_up, open_link, is_up, is_settled, link_is_up, link_count}
+use Rattle.set_model.specs.Step.{Outcome as SetOutcome, refused, offer_refusal, offered, taken, found, with_known, in_service, falls, gives_up, timed, times_out, comes_back, restores, redeclares, runs_out, step}
 use Rattle.set_model.specs.Changeover.{declared_from, some_declare, redeclared_from, released_from, some_in_use, some_overdue}
 use Rattle.set_route.specs.Routing.{code_for}
 use Rattle.set_events.specs.declared.answer.Answer.TheVariants.{Done}
@@ -108,6 +108,11 @@ comes_tells k s = go (some_declare k 0 (link_count s) s)
     go true = tt
     go false = tt
 
+restores_tells : (k : ℕ) (s : State) (link : LinkState) (b : Bool)
+    → TellsNoFault (Answered (cond b (comes_back k s) (refused s Rattle.set_events.specs.declared.answer.Refusal.TheVariants.NotUp)).answer)
+restores_tells k s link true = comes_tells k s
+restores_tells k s link false = tt
+
 redeclares_tell : (k : ℕ) (s : State) → TellsNoFault (Answered (redeclares k s).answer)
 redeclares_tell k s = go (some_overdue (code_for k 0) 16 s)
   where
@@ -134,7 +139,7 @@ answer_tells s (DownEvent k) own = in_tells k s (falls false k s) (λ link. tt)
 answer_tells s (DownBlind k) own = in_tells k s (falls true k s) (λ link. tt)
 answer_tells s (NoAnswer k) own = on_tells k s (λ link. gives_up k s link link.phase) (λ link. give_tells k s link link.phase)
 answer_tells s (Timed k) own = on_tells k s (λ link. times_out k s link link.phase) (λ link. times_tell k s link link.phase)
-answer_tells s (Restore k) own = in_tells k s (λ link. comes_back k s) (λ link. comes_tells k s)
+answer_tells s (Restore k) own = in_tells k s (restores k s) (λ link. restores_tells k s link (open_link link))
 answer_tells s (Redeclare k) own = on_tells k s (λ link. redeclares k s) (λ link. redeclares_tell k s)
 answer_tells s (BackTimeout k) own = on_tells k s (λ link. runs_out k s) (λ link. runs_tells k s)
 answer_tells s (Test k) own = in_tells k s (λ link. refused s Nothing) (λ link. tt)

@@ -14,11 +14,11 @@ use Rattle.set_model.specs.declared.phase.Phase.TheVariants.{Up, Down, Settled}
 use Rattle.set_model.specs.Control.{BasicMethod, CyclicMethod, start_of, expected_of}
 use Rattle.set_model.specs.Rows.{unack}
 use Rattle.set_model.specs.Sound.{IsOf, IsSoundLink, IsPlaced, IsSound}
-use Rattle.set_model.specs.State.{LinkState, State, has_phase_up, has_phase_settled, link_is_settled, is_settled}
+use Rattle.set_model.specs.State.{carries, carries_in, open_link, LinkState, State, has_phase_up, has_phase_settled, link_is_settled, is_settled}
 use Rattle.set_model.proofs.Lists.{length_set, same_at}
 use Rattle.set_model.proofs.Settling.{settled_empty}
 use Rattle.set_veiled.specs.Veil.{veil}
-use Rattle.set_veiled.proofs.Veiled.{IsOut, this_link, other_link, up_same, settled_out}
+use Rattle.set_veiled.proofs.Veiled.{IsOut, this_link, other_link, open_same, settled_out}
 use Rattle.pair_rises.specs.Rises.{closed}
 
 settled_phase : (phase : Phase) → has_phase_settled phase ≡ true → phase ≡ Settled
@@ -70,6 +70,7 @@ module _ (l : ℕ) (s : State) (sound : IsSound s) (e : is_settled l s ≡ true)
         in_order = old.in_order;
         held_last = old.held_last;
         none_held = λ up. absurd (let no : false ≡ true = up in cc);
+        no_users = λ up shut. absurd (let no : false ≡ true = up in cc);
         in_range = λ up. absurd (let no : false ≡ true = up in cc);
         settled = λ e. old.settled w.phase;
       }
@@ -87,28 +88,31 @@ module _ (l : ℕ) (s : State) (sound : IsSound s) (e : is_settled l s ≡ true)
           subst (λ (k : LinkState). IsSoundLink s.settings n k s.rows) (sym one) (subst (λ (k : ℕ). IsSoundLink s.settings k cover s.rows) (sym same) here)
       go false d = sound.links n link (sym (other_link cover refl l s n d) ∙ found)
 
-  -- a link of this number that isn't settled isn't this one
-  apart_by : (n : ℕ) (link : LinkState) → slice_get s.links n ≡ Some link → has_phase_settled link.phase ≡ false → (b : Bool) → (n == l) ≡ b
+  -- a link of this number that carries streams isn't this one
+  carries_none : (link : LinkState) → has_phase_settled link.phase ≡ true → carries link ≡ false
+  carries_none link f = ap (carries_in link.tested) (settled_phase link.phase f)
+
+  apart_by : (n : ℕ) (link : LinkState) → slice_get s.links n ≡ Some link → carries link ≡ true → (b : Bool) → (n == l) ≡ b
       → slice_get (veil cover l s).links n ≡ Some link
-  apart_by n link found unsettled true d =
+  apart_by n link found carried true d =
       let same : n ≡ l = eqb-true n l d in
       let one : link ≡ was.link = same_at s.links l was.link link was.there (ap (slice_get s.links) (sym same) ∙ found) in
-      absurd (let no : true ≡ false = sym was.phase ∙ sym (ap (λ (k : LinkState). has_phase_settled k.phase) one) ∙ unsettled in cc)
-  apart_by n link found unsettled false d = other_link cover refl l s n d ∙ found
+      absurd (let no : true ≡ false = sym carried ∙ ap carries one ∙ carries_none was.link was.phase in cc)
+  apart_by n link found carried false d = other_link cover refl l s n d ∙ found
 
   placed : (place : Place) → IsPlaced s.links place → IsPlaced (veil cover l s).links place
   placed (On n) p = (p.0, apart_by n p.0 p.1 p.2 (n == l) refl, p.2)
   placed (Changing to code via) p = (p.0, apart_by via p.0 p.1 p.2 (via == l) refl, p.2)
   placed Nowhere p = tt
 
-  -- a link that is up was so
-  was_up : (n : ℕ) (link : LinkState) → slice_get (veil cover l s).links n ≡ Some link → has_phase_up link.phase ≡ true → (b : Bool) → (n == l) ≡ b
+  -- a link that is open was so
+  was_open : (n : ℕ) (link : LinkState) → slice_get (veil cover l s).links n ≡ Some link → open_link link ≡ true → (b : Bool) → (n == l) ≡ b
       → slice_get s.links n ≡ Some link
-  was_up n link found up true d =
+  was_open n link found is true d =
       let same : n ≡ l = eqb-true n l d in
       let one : link ≡ cover = same_at (veil cover l s).links l cover link (this_link cover refl l s o) (ap (slice_get (veil cover l s).links) (sym same) ∙ found) in
-      absurd (let no : false ≡ true = sym (ap (λ (k : LinkState). has_phase_up k.phase) one) ∙ up in cc)
-  was_up n link found up false d = sym (other_link cover refl l s n d) ∙ found
+      absurd (let no : false ≡ true = sym (ap open_link one) ∙ is in cc)
+  was_open n link found is false d = sym (other_link cover refl l s n d) ∙ found
 
   stays : IsSound (veil cover l s)
   stays = record {
@@ -120,10 +124,10 @@ module _ (l : ℕ) (s : State) (sound : IsSound s) (e : is_settled l s ≡ true)
     fit = sound.fit;
     links = each;
     placed = λ stream few. placed (place_of stream s.routing) (sound.placed stream few);
-    none_aside = λ n link found up. sound.none_aside n link (was_up n link found up (n == l) refl) up;
-    all_run = λ n link found up. sound.all_run n link (was_up n link found up (n == l) refl) up;
+    none_aside = λ n link found is. sound.none_aside n link (was_open n link found is (n == l) refl) is;
+    all_run = λ n link found is. sound.all_run n link (was_open n link found is (n == l) refl) is;
     codes = λ code. let c = sound.codes code in record {
-      home_up = λ via e. up_same cover refl l s o _ ∙ c.home_up via e;
+      home_open = λ via e. open_same cover refl l s o _ ∙ c.home_open via e;
       via_stands = λ via e. placed (On via) (c.via_stands via e);
       few = c.few;
     };

@@ -2,6 +2,7 @@
 -- of pair_streams' Risen.antt for an end by itself: the link was settled in a state `u` that has the rows and the
 -- routing of the one (`s`) in which the streams are told. For the first of the two that's the same state; for the second
 -- `s` is `u` under its veil. At the other end nothing moves (`still_flow`).
+use Rattle.set_model.proofs.Lists.{carried_unsettled}
 use Rattle.std.proofs.Common.{arith, refl, ◌≡◌, ◌∙◌, ap, ap₂, sym, subst, ℕ, ◌<◌, ◌==◌, ◌-◌, ◌%◌, Bool, true, false, List, [], ◌++◌, slice_get, Some}
 use Rattle.std.proofs.lemmas.Bool.{eqb-true}
 use Rattle.set_route.specs.declared.place.Place.{Place}
@@ -10,7 +11,7 @@ use Rattle.set_route.specs.Routing.{place_of, place_raised, code_of, Routing, Is
 use Rattle.set_route.proofs.Alone as route
 use Rattle.set_model.specs.Sound.{IsSound, IsPlaced}
 use Rattle.set_model.specs.Rows.{Row, parked, standing, is_back}
-use Rattle.set_model.specs.State.{LinkState, State, has_phase_settled, is_settled, link_is_settled}
+use Rattle.set_model.specs.State.{carries, LinkState, State, has_phase_settled, is_settled, link_is_settled}
 use Rattle.pair_model.specs.Run.{Message, messages}
 use Rattle.pair_changeover.specs.Pending.{queue, pending, aside, acked_of, acked_on, accepted_of, accepted_on}
 use Rattle.pair_changeover.proofs.Passing.{Rises}
@@ -71,14 +72,14 @@ module _ (k : ℕ) (u s t f g : State) (sound : IsSound u) (a : Rises k u t) (sa
     used_then = ap (has_messages stream) routing_then ∙ (route.alone s.routing stream sound_routing low).raised_messages k
 
     -- it neither ran on the link nor came from it, which was settled
-    not_settled : (l : ℕ) → (link : LinkState) × (slice_get u.links l ≡ Some link) × (has_phase_settled link.phase ≡ false) → (k == l) ≡ false
+    not_settled : (l : ℕ) → (link : LinkState) × (slice_get u.links l ≡ Some link) × (carries link ≡ true) → (k == l) ≡ false
     not_settled l there = go (k == l) refl
       where
         go : (c : Bool) → (k == l) ≡ c → (k == l) ≡ false
         go false e = e
         go true e =
             let here : is_settled l u ≡ true = subst (λ (n : ℕ). is_settled n u ≡ true) (eqb-true k l e) a.settled_was in
-            let never : true ≡ false = sym here ∙ ap link_is_settled there.1 ∙ there.2 in
+            let never : true ≡ false = sym here ∙ ap link_is_settled there.1 ∙ carried_unsettled there.0.tested there.0.phase there.2 in
             absurd cc
 
     -- where it was aside

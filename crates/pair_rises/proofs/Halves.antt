@@ -15,9 +15,9 @@ use Rattle.set_model.specs.Changeover.{fate_on, queued}
 use Rattle.set_model.specs.Rows.{was_discarded, IsNumbered}
 use Rattle.set_model.specs.Sound.{IsSound}
 use Rattle.set_model.specs.State.{given, late_at, LinkState, State, has_phase_settled, is_settled, link_is_settled, target}
-use Rattle.set_model.specs.Step.{risen_link, step}
+use Rattle.set_model.specs.Step.{opened_link, risen_link, step}
 use Rattle.set_model.proofs.Ahead.{put_apart}
-use Rattle.set_model.proofs.Lists.{get_set_same, same_at, within}
+use Rattle.set_model.proofs.Lists.{set_twice, get_set_same, same_at, within}
 use Rattle.set_model.proofs.Places.{apart_back}
 use Rattle.set_model.proofs.Settling.{settled_empty}
 use Rattle.set_model.proofs.Soundness.{step_sound}
@@ -232,7 +232,8 @@ module _ (mx my : Method) (one : IsOneMethod mx my) (s f : State) (near_past far
 
   none_acked : acked_on k (step s (UpEvent k)).state ≡ 0
   unfolding step
-  none_acked = rw (at.there, at.phase_is) (ap acked_of (get_set_same s.links k (risen_link s.settings.profile s.settings.method (late_at k s)) (within s.links k link at.there)))
+  none_acked = rw (at.there, at.phase_is) (ap (λ (ls : List LinkState). acked_of (slice_get ls k)) (set_twice s.links k (risen_link s.settings.profile s.settings.method (late_at k s)) (opened_link (risen_link s.settings.profile s.settings.method (late_at k s))))
+      ∙ ap acked_of (get_set_same s.links k (opened_link (risen_link s.settings.profile s.settings.method (late_at k s))) (within s.links k link at.there)))
 
   -- it's as it was before the veil
   bare_first : (l : ℕ) → (k == l) ≡ false → AckedFirst l (near_past.sent l) under → AckedFirst l (near_past.sent l) s

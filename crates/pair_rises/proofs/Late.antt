@@ -28,13 +28,13 @@ use Rattle.set_model.specs.declared.phase.Phase.TheVariants.{Up, Settled}
 use Rattle.set_model.specs.declared.reached.Reached.TheVariants.{Upto, Unknown}
 use Rattle.set_events.specs.declared.config.Method.{Method}
 use Rattle.set_model.specs.Changeover.{fate_on, queued, settled, settled_link, moved_over, is_reasonable, reached_by, acknowledged, acknowledged_by, discarded, reply_of, answered_link, one_later, order_obeyed, obeyed}
-use Rattle.set_model.specs.Step.{Outcome, with_known, brought, takes, controlled, controls, part_in, is_heard, risen_link, rises, step}
+use Rattle.set_model.specs.Step.{opened, Outcome, with_known, brought, takes, controlled, controls, part_in, is_heard, risen_link, rises, step}
 use Rattle.set_model.specs.Laws.{IsEmptyLink}
 use Rattle.set_model.specs.Rows.{Row, unack, on, is_on, is_unacked, is_waiting, all_with, put_ahead, standing, turned, changed, moved, with_fate, fated, service_indicator}
 use Rattle.set_model.specs.Sound.{IsSound, IsPlaced}
-use Rattle.set_model.specs.State.{late_at, late_in, LinkState, State, Settings, given, with_link, target, has_phase_up, has_phase_settled, is_up, is_settled, link_is_settled}
+use Rattle.set_model.specs.State.{open_link, opens_in, late_at, late_in, LinkState, State, Settings, given, with_link, target, has_phase_up, has_phase_settled, is_up, is_settled, link_is_settled}
 use Rattle.set_model.proofs.Events.{Untouched, acknowledged as acks, empty_link}
-use Rattle.set_model.proofs.Lists.{same_at, map_set_same, get_set_same, get_set_other, within}
+use Rattle.set_model.proofs.Lists.{carried_unsettled, set_twice, same_at, map_set_same, get_set_same, get_set_other, within}
 use Rattle.set_model.proofs.Places.{false_true, itself}
 use Rattle.set_model.proofs.SoundLink.{queues, hears_sound}
 use Rattle.set_model.proofs.Walk.{IsAt}
@@ -153,11 +153,6 @@ module _ (test : Fate → Bool) where
       ap (λ (rs : List Row). standing (λ fate. not (test fate)) rows ++ map (fated f) rs) e
       ∙ append-nil (standing (λ fate. not (test fate)) rows) ∙ others_all rows e
 
-pub set_twice : {X : Type 0} (xs : List X) (n : ℕ) (x y : X) → slice_set (slice_set xs n x) n y ≡ slice_set xs n y
-set_twice [] n x y = refl
-set_twice (z ∷ xs) zero x y = refl
-set_twice (z ∷ xs) (suc n) x y = ap (λ (ys : List _). z ∷ ys) (set_twice xs n x y)
-
 -- nor does a stream that isn't there
 module _ (l : ℕ) (to : Option ℕ) where
   same_streams : (streams : List Stream)
@@ -177,14 +172,14 @@ module _ (l : ℕ) (to : Option ℕ) where
       go false e = refl
       go true e =
           let same : placed.0 ≡ link = same_at links l link placed.0 there (ap (slice_get links) (sym (eqb-true n l e)) ∙ placed.1) in
-          absurd (let no : true ≡ false = sym settled ∙ ap (λ (k : LinkState). has_phase_settled k.phase) (sym same) ∙ placed.2 in cc)
+          absurd (let no : true ≡ false = sym settled ∙ ap (λ (k : LinkState). has_phase_settled k.phase) (sym same) ∙ carried_unsettled placed.0.tested placed.0.phase placed.2 in cc)
   place_same links link there settled (Changing home code via) placed = ap (λ (v : ℕ). Changing home code v) (via_same to)
     where
       at : (b : Bool) (target : ℕ) → (via == l) ≡ b → cond b target via ≡ via
       at false target e = refl
       at true target e =
           let same : placed.0 ≡ link = same_at links l link placed.0 there (ap (slice_get links) (sym (eqb-true via l e)) ∙ placed.1) in
-          absurd (let no : true ≡ false = sym settled ∙ ap (λ (k : LinkState). has_phase_settled k.phase) (sym same) ∙ placed.2 in cc)
+          absurd (let no : true ≡ false = sym settled ∙ ap (λ (k : LinkState). has_phase_settled k.phase) (sym same) ∙ carried_unsettled placed.0.tested placed.0.phase placed.2 in cc)
 
       via_same : (o : Option ℕ) → via_settled l o via ≡ via
       via_same None = refl
@@ -274,9 +269,9 @@ module _ (l : ℕ) (m : State) (sound : IsSound m) (link : LinkState) (at : IsAt
       → veil (closed m.settings) l (with_link l (answered_link link) (queued (reply_of l link) m))
       ≡ queued (Coa l (fsn_before_first m.settings.profile)) (veil (closed m.settings) l m)
   answers_so is =
-      let down : has_phase_up link.phase ≡ false = ap has_phase_up at.phase_is in
+      let down : open_link link ≡ false = ap (opens_in link.tested) at.phase_is in
       let to : target (slice_set m.links l (closed m.settings)) ≡ target m.links =
-      ap target_of (map_set_same (λ (k : LinkState). has_phase_up k.phase) m.links l link (closed m.settings) at.there (sym down)) in
+      ap target_of (map_set_same (λ (k : LinkState). open_link k) m.links l link (closed m.settings) at.there (sym down)) in
       ap (λ (order : Order). veil (closed m.settings) l (with_link l (answered_link link) (queued order m))) is
       ∙ ap₂ (λ (ls : List LinkState) (o : Option ℕ). record m {
         links = ls;
@@ -485,9 +480,10 @@ rises_over k s link at =
     let seen = veil cover k s in
     let there : slice_get seen.links k ≡ Some cover = get_set_same s.links k cover (within s.links k link at.there) in
     let late : late_at k seen ≡ late_at k s = ap late_in there ∙ sym (ap late_in at.there) in
+    let new : ℕ → LinkState = risen_link s.settings.profile s.settings.method in
     ap (λ (o : Outcome). o.state) (rise_is k seen cover (record { there = there; phase_is = refl }))
-    ∙ ap (λ (n : ℕ). record (rises k s Settled).state { links = slice_set seen.links k (risen_link s.settings.profile s.settings.method n) }) late
-    ∙ ap (λ (ls : List LinkState). record (rises k s Settled).state { links = ls }) (set_twice s.links k cover (risen_link s.settings.profile s.settings.method (late_at k s)))
+    ∙ ap (λ (n : ℕ). opened k (new n) (with_link k (new n) seen)) late
+    ∙ ap (λ (ls : List LinkState). opened k (new (late_at k s)) (record s { links = ls })) (set_twice s.links k cover (new (late_at k s)))
     ∙ sym (ap (λ (o : Outcome). o.state) (rise_is k s link at))
 
 pub veil_over : (k : ℕ) (s : State) (cover last : LinkState) → veil last k (veil cover k s) ≡ veil last k s

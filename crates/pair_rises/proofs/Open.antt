@@ -24,7 +24,7 @@ use Rattle.set_model.specs.Changeover.{Obeyed, acknowledged_back, order_obeyed, 
 use Rattle.set_model.specs.Rows.{Row, service_indicator}
 use Rattle.set_model.specs.Sound.{IsSound}
 use Rattle.set_model.specs.State.{LinkState, State, given, is_up, is_settled, link_is_up, link_is_settled}
-use Rattle.set_model.specs.Step.{Outcome, brought, takes, next, step}
+use Rattle.set_model.specs.Step.{opened_link, Outcome, brought, takes, next, step}
 use Rattle.set_model.proofs.Lists.{get_set_same, get_set_other, within}
 use Rattle.set_model.proofs.Walk.{IsAt, KeptBy, Touches, obeys_walks}
 use Rattle.pair_model.specs.Promises.{IsOneMethod}
@@ -233,6 +233,7 @@ module _ (l : ℕ) where
     redeclares = λ code via s due. refl;
     acknowledges_back = λ code s known. refl;
     releases = λ code s known. refl;
+    opens = λ n link s known at unopened u. set_apart s.links n (opened_link link) known;
   }
 
   touch_case : (order : Order) → IsChangeover order → (link_of order == l) ≡ false → (n : ℕ) → Touches order n → (n == l) ≡ false

@@ -32,8 +32,8 @@ use Rattle.set_model.specs.declared.reached.Reached.{Reached}
 use Rattle.set_model.specs.declared.reached.Reached.TheVariants.{Upto, Unknown, Unanswered, Unasked}
 use Rattle.set_model.specs.Changeover.{reply_of, settled, settled_link, left_link, is_reasonable, acknowledged, reached_by, acknowledged_by, discarded, judged, judged_link, is_told, cleared, can_declare, declared, declared_if, declared_from, some_declare, Obeyed, answered_link, changed_over, answered, at_link, obeyed_at, acknowledged_back, order_obeyed, obeyed}
 use Rattle.set_model.specs.Rows.{service_indicator, place}
-use Rattle.set_model.specs.State.{LinkState, State, given, Settings, has_phase_up, is_settled, link_is_settled, has_phase_settled, link_count, new_link, opened_with}
-use Rattle.set_model.specs.Step.{Outcome, refused, offer_refusal, offered, taken, found, with_known, in_service, next, brought, takes, part_in, controlled, controls, is_heard, heard, falls, comes_back, step}
+use Rattle.set_model.specs.State.{open_link, LinkState, State, given, Settings, has_phase_up, is_settled, link_is_settled, has_phase_settled, link_count, new_link, opened_with}
+use Rattle.set_model.specs.Step.{restores, Outcome, refused, offer_refusal, offered, taken, found, with_known, in_service, next, brought, takes, part_in, controlled, controls, is_heard, heard, falls, comes_back, step}
 use Rattle.set_model.proofs.Lists.{at_set}
 use Rattle.pair_model.specs.World.{has_own_step}
 use Rattle.pair_changeover.proofs.Obeying.{left_and_told}
@@ -216,11 +216,15 @@ asked_older false end (NoAnswer k) s plain own = absurd plain
 asked_older true end (NoAnswer k) s plain own = absurd plain
 asked_older false end (Timed k) s plain own = absurd plain
 asked_older true end (Timed k) s plain own = absurd plain
-asked_older em end (Restore k) s plain own = in_older k s (λ link. comes_back k s) (λ link up. go (some_declare k 0 (link_count s) s))
+asked_older em end (Restore k) s plain own = in_older k s (restores k s) (λ link up. at (open_link link))
   where
     go : (b : Bool) → Older s.links (cond b (record { answer = Done; state = declared_from k 0 (link_count s) s }) (refused s Nothing)).state.links
     go true = subst (λ (ls : List LinkState). Older s.links ls) (sym (from_same (link_count s) k 0 s)) (older_same s.links)
     go false = older_same s.links
+
+    at : (b : Bool) → Older s.links (cond b (comes_back k s) (refused s NotUp)).state.links
+    at true = go (some_declare k 0 (link_count s) s)
+    at false = older_same s.links
 asked_older em end (Redeclare k) s plain own =
     redeclared_at s (λ a b. a ≡ a) (λ t. Older s.links t.links) k (slice_get s.links k) (older_same s.links)
     (subst (λ (ls : List LinkState). Older s.links ls) (sym (redeclared_links (code_for k 0) 16 s)) (older_same s.links))

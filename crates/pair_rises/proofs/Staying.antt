@@ -48,6 +48,7 @@ small Known May l = record {
   redeclares = λ code via s due e. e;
   acknowledges_back = λ code s known e. e;
   releases = λ code s known e. e;
+  opens = λ n link s known at shut u. stays_set l n link _ s.links at.there (λ e. e);
 }
 
 abbrev pub IsNoRise : ℕ → Event → Type 0
@@ -63,6 +64,6 @@ settled_after l s event apart = step_walks s (Stays l) (Stays l s) event (record
   takes = λ body rest e there was. was;
   sends = λ n link t e same at g was. stays_set l n link _ t.links at.there (λ f. f) (same was);
   hears = λ n unit link e fits at g. stays_set l n link _ s.links at.there (λ f. f);
-  rises = λ n link e at u was.
+  rises = λ n link e at was.
       ap link_is_settled (get_set_other s.links n l _ (λ same. false_true (n == l) (subst (IsNoRise l) e apart) (ap (λ (m : ℕ). n == m) (sym same) ∙ itself n))) ∙ was;
 })

@@ -1,10 +1,10 @@
 -- TOGETHER IS A RISE AT EACH END: when the first came up the link isn't settled there any more, so the other joins.
-use Rattle.std.proofs.Common.{refl, ◌≡◌, ◌∙◌, ap, subst, ℕ, Bool, true, false, ◌&&◌, ◌||◌, nat_lt, cond}
+use Rattle.std.proofs.Common.{slice_get, List, refl, ◌≡◌, ◌∙◌, ap, subst, ℕ, Bool, true, false, ◌&&◌, ◌||◌, nat_lt, cond}
 use Rattle.set_events.specs.declared.event.Event.TheVariants.{Up as UpEvent}
 use Rattle.set_model.specs.declared.phase.Phase.TheVariants.{Settled}
 use Rattle.set_model.specs.State.{LinkState, State, late_at, is_settled, link_is_settled}
-use Rattle.set_model.specs.Step.{step, risen_link}
-use Rattle.set_model.proofs.Lists.{get_set_same, within}
+use Rattle.set_model.specs.Step.{opened_link, step, risen_link}
+use Rattle.set_model.proofs.Lists.{set_twice, get_set_same, within}
 use Rattle.set_model.proofs.Walk.{link_count_stays, IsAt}
 use Rattle.pair_steps.specs.declared.step.End.TheVariants.{A, B}
 use Rattle.pair_steps.specs.declared.step.Shown.TheVariants.{Up}
@@ -17,7 +17,8 @@ use Rattle.pair_rises.specs.declared.moves.Move.TheVariants.{Rise}
 unsettled_then : (k : ℕ) (s : State) (link : LinkState) → IsAt k link Settled s → is_settled k (step s (UpEvent k)).state ≡ false
 unfolding step
 unsettled_then k s link at = rw (at.there, at.phase_is)
-    (ap link_is_settled (get_set_same s.links k (risen_link s.settings.profile s.settings.method (late_at k s)) (within s.links k link at.there)))
+    (ap (λ (ls : List LinkState). link_is_settled (slice_get ls k)) (set_twice s.links k (risen_link s.settings.profile s.settings.method (late_at k s)) (opened_link (risen_link s.settings.profile s.settings.method (late_at k s))))
+    ∙ ap link_is_settled (get_set_same s.links k (opened_link (risen_link s.settings.profile s.settings.method (late_at k s))) (within s.links k link at.there)))
 
 module _ (g : Rising) (k : ℕ) where
   abbrev w : World

@@ -4,6 +4,7 @@
 -- lost. `asked_streams`, `sends_streams`, `sends_none` and `rises_streams` say that such a step keeps it. An offer
 -- alone adds to what was offered, and its message stands last where its stream runs. Case by case on the event; the
 -- queues are told by pair_changeover's Keeping.antt. Runs.antt has the induction, Hearing.antt the step that is left.
+use Rattle.std.proofs.lemmas.Bool.{cond_both}
 use Rattle.std.proofs.Common.{refl, ◌≡◌, ◌∙◌, ap, sym, subst, ℕ, ◌<◌, ◌==◌, Bool, true, false, List, [], ◌∷◌, ◌++◌, length, slice_get, Option, Some, None, cond, inl, inr}
 use Rattle.std.proofs.lemmas.List.{append-nil}
 use Rattle.l2_units.specs.declared.unit.Unit.{Unit as SignalUnit}
@@ -22,8 +23,8 @@ use Rattle.set_model.specs.Changeover.{leaving_order, left_by, left_link}
 use Rattle.set_model.specs.Control.{Choice, again, first, fill, choice_of}
 use Rattle.set_model.specs.Rows.{unack, place, stream_of, standing, is_waiting, is_parked, is_back, octets_in, all_with}
 use Rattle.set_model.specs.Sound.{IsSound}
-use Rattle.set_model.specs.State.{given, LinkState, State, is_up, is_settled, link_is_up, has_phase_up, window_of}
-use Rattle.set_model.specs.Step.{Outcome, refused, offer_refusal, offered, taken, found, falls, comes_back, with_known, in_service, next, rows_sent, step}
+use Rattle.set_model.specs.State.{open_link, is_open, link_is_open, given, LinkState, State, is_up, is_settled, link_is_up, has_phase_up, window_of}
+use Rattle.set_model.specs.Step.{restores, Outcome, refused, offer_refusal, offered, taken, found, falls, comes_back, with_known, in_service, next, rows_sent, step}
 use Rattle.set_model.proofs.Rows.{turned_same, moved_same}
 use Rattle.set_model.proofs.Places.{itself, stream_below_16}
 use Rattle.set_model.proofs.SoundBack.{leaves}
@@ -195,10 +196,12 @@ module _ (s f : State) (sound : IsSound s) (offered_here got lost : ℕ → List
       left_accepted link at = by_link k link (left_link blind (given s) link) s (left_by blind k link s) at.there refl
           (λ n old new. accepted_of new ≡ accepted_of old) refl (λ n old d. refl)
 
-  restore_keeps : (k : ℕ) (link : LinkState) → IsAt k link Up s → Keeps' (comes_back k s).state
+  restore_keeps : (k : ℕ) (link : LinkState) → IsAt k link Up s → Keeps' (restores k s link).state
   restore_keeps k link at =
-      let up : is_up k s ≡ true = ap link_is_up at.there ∙ ap has_phase_up at.phase_is in
-      record { out = comes_flow k s f offered_here got lost sound up w; acks = comes_acks k s f sound up }
+      cond_both (open_link link) (comes_back k s) (refused s NotUp) (λ (o : Outcome). Keeps' o.state)
+      (λ e. let is : is_open k s ≡ true = ap link_is_open at.there ∙ e in
+      record { out = comes_flow k s f offered_here got lost sound is w; acks = comes_acks k s f sound is })
+      (λ shut. keeps_self)
 
   -- any but an offer, that has no step of its own
   event_keeps : (emergencies : Bool) (event : Event) (end : End) → has_own_step event ≡ false
@@ -214,7 +217,7 @@ module _ (s f : State) (sound : IsSound s) (offered_here got lost : ℕ → List
   event_keeps emergencies (DownBlind k) end own safe other = in_keeps k (falls true k s) (λ link at. down_keeps true k link at)
   event_keeps emergencies (NoAnswer k) end own safe other = absurd (never_unanswered emergencies end k safe)
   event_keeps emergencies (Timed k) end own safe other = absurd (never_by_time emergencies end k safe)
-  event_keeps emergencies (Restore k) end own safe other = in_keeps k (λ link. comes_back k s) (λ link at. restore_keeps k link at)
+  event_keeps emergencies (Restore k) end own safe other = in_keeps k (restores k s) (λ link at. restore_keeps k link at)
   event_keeps emergencies (Redeclare k) end own safe other =
       redeclared_at s (λ a b. a ≡ a) Keeps' k (slice_get s.links k) keeps_self (record {
         out = redeclared_flow (code_for k 0) 16 s f offered_here got lost sound w;

@@ -19,17 +19,17 @@ use Rattle.set_route.proofs.Codes.{set_at}
 use Rattle.set_route.proofs.Alone as route
 use Rattle.set_model.specs.Changeover.{can_declare, declared, declared_from, some_declare}
 use Rattle.set_model.specs.Sound.{IsSound}
-use Rattle.set_model.specs.State.{given, LinkState, State, link_count, is_up, link_is_up}
+use Rattle.set_model.specs.State.{given, LinkState, State, link_count, is_open, link_is_open}
 use Rattle.set_model.specs.Step.{comes_back, refused}
 use Rattle.set_events.specs.declared.answer.Answer.TheVariants.{Done}
 use Rattle.set_events.specs.declared.answer.Refusal.TheVariants.{Nothing}
 use Rattle.set_model.proofs.Order.{coded_at}
 use Rattle.set_model.proofs.Lists.{within}
 use Rattle.set_model.proofs.Places.{itself, false_true}
-use Rattle.set_model.proofs.SoundBack.{alternative_up, declares}
+use Rattle.set_model.proofs.SoundBack.{alternative_open, declares}
 use Rattle.pair_model.specs.Run.{Message}
 use Rattle.pair_changeover.specs.Pending.{pending, aside, acked_on, accepted_on}
-use Rattle.pair_changeover.proofs.Changes.{Grows, grown, ungrown, IsNew, to_wait, held_none}
+use Rattle.pair_changeover.proofs.Changes.{Grows, grown, ungrown, IsNew, to_wait, held_open}
 use Rattle.pair_changeover.proofs.Table.{new_message}
 use Rattle.pair_changeover.proofs.Views.{view, Among, In, stands_on, stands_aside}
 use Rattle.pair_streams.specs.Streams.{is_of, those_of}
@@ -46,11 +46,11 @@ is_free_so (Asked via declaration owed) e = absurd cc
 is_free_so (Spent owed) e = absurd cc
 
 -- a link that is up is one of the set's
-up_below : (l : ℕ) (s : State) → IsSound s → is_up l s ≡ true → l < 16
-up_below l s sound up = go (slice_get s.links l) refl
+open_below : (l : ℕ) (s : State) → IsSound s → is_open l s ≡ true → l < 16
+open_below l s sound up = go (slice_get s.links l) refl
   where
     go : (o : Option LinkState) → slice_get s.links l ≡ o → l < 16
-    go None e = absurd (let never : false ≡ true = ap link_is_up (sym e) ∙ up in cc)
+    go None e = absurd (let never : false ≡ true = ap link_is_open (sym e) ∙ up in cc)
     go (Some link) e = omega (arith, within s.links l link e, sound.count, sound.routed, sound.routing.at_most_16)
 
 -- a stream that runs on the alternative
@@ -59,7 +59,7 @@ runs_on_so alternative (On l) e = ap On (eqb-true l alternative e)
 runs_on_so alternative (Changing to code via) e = absurd cc
 runs_on_so alternative Nowhere e = absurd cc
 
-module _ (home alternative : ℕ) (s f : State) (sound : IsSound s) (home_up : is_up home s ≡ true) (can : can_declare home alternative s ≡ true) where
+module _ (home alternative : ℕ) (s f : State) (sound : IsSound s) (home_open : is_open home s ≡ true) (can : can_declare home alternative s ≡ true) where
   abbrev then_s : State
   then_s = declared home alternative s
 
@@ -72,20 +72,20 @@ module _ (home alternative : ℕ) (s f : State) (sound : IsSound s) (home_up : i
   abbrev z : Message
   z = new_message (given s) body
 
-  alternative_is_up : is_up alternative s ≡ true
-  alternative_is_up = alternative_up home alternative s can
+  alternative_is_open : is_open alternative s ≡ true
+  alternative_is_open = alternative_open home alternative s can
 
   code_free : code_of code s.routing ≡ Free
   code_free =
       let apart_can = both_true (not (alternative == home)) _ can in
-      let up_can = both_true (is_up alternative s) _ apart_can.1 in
+      let up_can = both_true (is_open alternative s) _ apart_can.1 in
       is_free_so (code_of code s.routing) (both_true (is_free (code_of code s.routing)) (some_away home alternative s.routing.streams) up_can.1).0
 
   few : code < 256
-  few = omega (arith, up_below home s sound home_up, up_below alternative s sound alternative_is_up)
+  few = omega (arith, open_below home s sound home_open, open_below alternative s sound alternative_is_open)
 
   new_at : (l : ℕ) → IsNew (accepted_on l f - acked_on l s) l (given s) s.rows body (Waiting alternative)
-  new_at l = to_wait alternative (λ same. held_none s l sound (subst (λ (n : ℕ). is_up n s ≡ true) (eqb-true alternative l same) alternative_is_up))
+  new_at l = to_wait alternative (λ same. held_open s l sound (subst (λ (n : ℕ). is_open n s ≡ true) (eqb-true alternative l same) alternative_is_open))
 
   of_none : (stream : ℕ) → is_of stream z ≡ false
   of_none stream = no_stream stream s.settings.sio (given s)
@@ -275,28 +275,28 @@ module _ (home alternative : ℕ) (s f : State) (sound : IsSound s) (home_up : i
 
 -- FROM ALL LINKS from which it can
 pub declares_from : (home alternative n : ℕ) (s f : State) (offered got lost : ℕ → List Message) → IsSound s
-    → is_up home s ≡ true → Flows s f offered got lost → Flows (declared_from home alternative n s) f offered got lost
+    → is_open home s ≡ true → Flows s f offered got lost → Flows (declared_from home alternative n s) f offered got lost
 declares_from home alternative zero s f offered got lost sound up w = w
 declares_from home alternative (suc n) s f offered got lost sound up w =
     go (can_declare home alternative s) refl
     (λ t sound_t up_t w_t. declares_from home (suc alternative) n t f offered got lost sound_t up_t w_t)
   where
     go : (b : Bool) → can_declare home alternative s ≡ b
-        → ((t : State) → IsSound t → is_up home t ≡ true → Flows t f offered got lost
+        → ((t : State) → IsSound t → is_open home t ≡ true → Flows t f offered got lost
         → Flows (declared_from home (suc alternative) n t) f offered got lost)
         → Flows (declared_from home alternative (suc n) s) f offered got lost
     go true e later = rw e (later (declared home alternative s) (declares home alternative s up e sound) up
         (declares_flow home alternative s f sound up e offered got lost w))
     go false e later = rw e (later s sound up w)
 
-pub acks_from : (home alternative n : ℕ) (s f : State) → IsSound s → is_up home s ≡ true
+pub acks_from : (home alternative n : ℕ) (s f : State) → IsSound s → is_open home s ≡ true
     → NewAcknowledges (view (declared_from home alternative n s) f) (view s f)
 acks_from home alternative zero s f sound up = λ c m i a. i
 acks_from home alternative (suc n) s f sound up =
     go (can_declare home alternative s) refl (λ t sound_t up_t. acks_from home (suc alternative) n t f sound_t up_t)
   where
     go : (b : Bool) → can_declare home alternative s ≡ b
-        → ((t : State) → IsSound t → is_up home t ≡ true
+        → ((t : State) → IsSound t → is_open home t ≡ true
         → NewAcknowledges (view (declared_from home (suc alternative) n t) f) (view t f))
         → NewAcknowledges (view (declared_from home alternative (suc n) s) f) (view s f)
     go true e later = subst (λ (b : Bool). NewAcknowledges
@@ -307,7 +307,7 @@ acks_from home alternative (suc n) s f sound up =
         (view (declared_from home (suc alternative) n (cond b (declared home alternative s) s)) f) (view s f)) (sym e)
         (later s sound up)
 
-pub comes_flow : (k : ℕ) (s f : State) (offered got lost : ℕ → List Message) → IsSound s → is_up k s ≡ true
+pub comes_flow : (k : ℕ) (s f : State) (offered got lost : ℕ → List Message) → IsSound s → is_open k s ≡ true
     → Flows s f offered got lost → Flows (comes_back k s).state f offered got lost
 comes_flow k s f offered got lost sound up w = go (some_declare k 0 (link_count s) s) refl
   where
@@ -315,7 +315,7 @@ comes_flow k s f offered got lost sound up w = go (some_declare k 0 (link_count 
     go true e = rw e (declares_from k 0 (link_count s) s f offered got lost sound up w)
     go false e = rw e w
 
-pub comes_acks : (k : ℕ) (s f : State) → IsSound s → is_up k s ≡ true → NewAcknowledges (view (comes_back k s).state f) (view s f)
+pub comes_acks : (k : ℕ) (s f : State) → IsSound s → is_open k s ≡ true → NewAcknowledges (view (comes_back k s).state f) (view s f)
 comes_acks k s f sound up = go (some_declare k 0 (link_count s) s) refl
   where
     go : (b : Bool) → some_declare k 0 (link_count s) s ≡ b → NewAcknowledges (view (comes_back k s).state f) (view s f)

@@ -17,12 +17,12 @@ use Rattle.set_route.proofs.Alone as route
 use Rattle.set_model.specs.Changeover.{fate_on, queued}
 use Rattle.set_model.specs.Rows.{stream_of, service_indicator, is_on, is_back, is_parked}
 use Rattle.set_model.specs.Sound.{IsSound}
-use Rattle.set_model.specs.State.{given, State, is_up, fate_at, target}
+use Rattle.set_model.specs.State.{given, State, is_open, fate_at, target}
 use Rattle.set_model.specs.Step.{offered as offered_step}
 use Rattle.set_model.proofs.Places.{itself, apart_back}
 use Rattle.pair_model.specs.Run.{Message, added_at}
 use Rattle.pair_changeover.specs.Pending.{pending, aside, acked_on, accepted_on}
-use Rattle.pair_changeover.proofs.Changes.{Grows, grown, ungrown, IsNew, to_wait, to_hold, to_park, to_back, held_none}
+use Rattle.pair_changeover.proofs.Changes.{Grows, grown, ungrown, IsNew, to_wait, to_hold, to_park, to_back, held_open}
 use Rattle.pair_changeover.proofs.Table.{new_message}
 use Rattle.pair_changeover.proofs.Texts.{plain_body}
 use Rattle.pair_changeover.proofs.Views.{view, In}
@@ -89,24 +89,24 @@ module _ (s f : State) (sound : IsSound s) (body : List ℕ) (low : stream_of bo
   new_for : (l : ℕ) → IsNew (accepted_on l f - acked_on l s) l (given s) s.rows body fate
   new_for l = go place
     where
-      on_link : (k : ℕ) (b : Bool) → is_up k s ≡ b → IsNew (accepted_on l f - acked_on l s) l (given s) s.rows body (cond b (Waiting k) (Held k))
-      on_link k true e = to_wait k (λ same. held_none s l sound (subst (λ (n : ℕ). is_up n s ≡ true) (eqb-true k l same) e))
+      on_link : (k : ℕ) (b : Bool) → is_open k s ≡ b → IsNew (accepted_on l f - acked_on l s) l (given s) s.rows body (cond b (Waiting k) (Held k))
+      on_link k true e = to_wait k (λ same. held_open s l sound (subst (λ (n : ℕ). is_open n s ≡ true) (eqb-true k l same) e))
       on_link k false e = to_hold k
 
       go : (p : Place) → IsNew (accepted_on l f - acked_on l s) l (given s) s.rows body (fate_at p s)
       go Nowhere = to_park
       go (Changing to code via) = to_back code
-      go (On k) = on_link k (is_up k s) refl
+      go (On k) = on_link k (is_open k s) refl
 
   on_parked : (k : ℕ) → is_parked (fate_at (On k) s) ≡ false
-  on_parked k = go (is_up k s)
+  on_parked k = go (is_open k s)
     where
       go : (b : Bool) → is_parked (cond b (Waiting k) (Held k)) ≡ false
       go true = refl
       go false = refl
 
   on_on : (k l : ℕ) → is_on l (fate_at (On k) s) ≡ (k == l)
-  on_on k l = go (is_up k s)
+  on_on k l = go (is_open k s)
     where
       go : (b : Bool) → is_on l (cond b (Waiting k) (Held k)) ≡ (k == l)
       go true = refl

@@ -3,7 +3,7 @@
 -- which for the declarations and codes of one event is an induction on how many are left. `hands_out` follows along a
 -- legal history by induction on its entries, and answers every_history_hands_out_in_order (src/laws.rt). No law of two
 -- ends occurs here; Handing.antt uses `event_passes` for them.
-use Rattle.set_model.specs.Step.{is_heard, controls}
+use Rattle.set_model.specs.Step.{restores, is_heard, controls}
 use Rattle.std.proofs.Common.{refl, ◌≡◌, ◌∙◌, ap, sym, ℕ, zero, suc, ◌==◌, Bool, true, false, List, [], ◌∷◌, ◌++◌, slice_get, Option, Some, None, cond, append_assoc}
 use Rattle.std.proofs.lemmas.List.{append-nil}
 use Rattle.l2_units.specs.declared.unit.Unit.{Unit as SignalUnit}
@@ -30,7 +30,7 @@ use Rattle.set_model.specs.declared.reached.Reached.{Reached}
 use Rattle.set_model.specs.declared.reached.Reached.TheVariants.{Upto, Unknown, Unanswered, Unasked}
 use Rattle.set_model.specs.History.{IsLegal, after}
 use Rattle.set_model.specs.Rows.{Fate, Waiting, Unacked, Acked, Held, Back, Parked, Discarded, place, service_indicator}
-use Rattle.set_model.specs.State.{given, LinkState, State, link_count, has_phase_up, window_of}
+use Rattle.set_model.specs.State.{open_link, given, LinkState, State, link_count, has_phase_up, window_of}
 use Rattle.set_model.specs.Control.{part_of}
 use Rattle.set_model.specs.Step.{Outcome, refused, offer_refusal, offered, taken, found, with_known, in_service, next, brought, takes, after_control, heard, rises, falls, gives_up, timed, times_out, comes_back, redeclares, runs_out, step}
 use Rattle.pair_streams.specs.Handed.{handed_by, message_of, delivered_by, handed_in, delivered_in, EveryHistoryHandsOutInOrder}
@@ -173,6 +173,10 @@ module _ (s : State) (event : Event) where
       go true = done (declared_from n 0 (link_count s) s) (declared_inbox n 0 (link_count s) s)
       go false = append-nil s.inbox
 
+  restore_passes : (n : ℕ) (link : LinkState) (b : Bool) → Passes (cond b (comes_back n s) (refused s NotUp))
+  restore_passes n link true = come_passes n
+  restore_passes n link false = append-nil s.inbox
+
   redeclare_passes : (n : ℕ) → Passes (redeclares n s)
   redeclare_passes n = go (some_overdue (code_for n 0) 16 s)
     where
@@ -236,7 +240,7 @@ event_passes s (DownEvent n) = in_passes s (DownEvent n) n (falls false n s) (λ
 event_passes s (DownBlind n) = in_passes s (DownBlind n) n (falls true n s) (λ link. append-nil s.inbox)
 event_passes s (NoAnswer n) = on_passes s (NoAnswer n) n (λ link. gives_up n s link link.phase) (λ link. give_passes s (NoAnswer n) n link link.phase)
 event_passes s (Timed n) = on_passes s (Timed n) n (λ link. times_out n s link link.phase) (λ link. time_passes s (Timed n) n link link.phase)
-event_passes s (Restore n) = in_passes s (Restore n) n (λ link. comes_back n s) (λ link. come_passes s (Restore n) n)
+event_passes s (Restore n) = in_passes s (Restore n) n (restores n s) (λ link. restore_passes s (Restore n) n link (open_link link))
 event_passes s (Redeclare n) = on_passes s (Redeclare n) n (λ link. redeclares n s) (λ link. redeclare_passes s (Redeclare n) n)
 event_passes s (BackTimeout n) = on_passes s (BackTimeout n) n (λ link. runs_out n s) (λ link. run_passes s (BackTimeout n) n)
 event_passes s (Test n) = in_passes s (Test n) n (λ link. refused s Nothing) (λ link. append-nil s.inbox)

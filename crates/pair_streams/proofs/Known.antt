@@ -21,7 +21,7 @@ use Rattle.set_model.specs.Control.{Choice, again, first, fill, choice_of, part_
 use Rattle.set_model.specs.Rows.{orders_changed, is_users, same_fate, waits, Row, is_on, is_back, is_back_to, is_unacked, is_waiting, is_parked, all_with, appended, moved, unack, octets_in, place, body_at, service_indicator, IsNumbered}
 use Rattle.set_model.specs.Sound.{IsManaged}
 use Rattle.set_model.specs.State.{On, fate_at, given, LinkState, State, target, window_of, with_link}
-use Rattle.set_model.specs.Step.{is_msu, sends, step}
+use Rattle.set_model.specs.Step.{risen, opened, is_msu, sends, step}
 use Rattle.std.proofs.lemmas.Bool.{cond_both}
 use Rattle.set_model.proofs.Ahead.{numbered_put, put_length, put_row}
 use Rattle.set_model.proofs.Events.{sent}
@@ -172,6 +172,7 @@ module _ (P : ℕ → List ℕ → Type 0) (Q : ℕ → Type 0) where
         (λ users. never_users order s c users) c;
     acknowledges_back = λ code s known c. moved_covers (is_back code) _ s (acknowledged_code code s) refl refl refl refl c;
     releases = λ code s known c. moved_covers (is_back code) _ s (released code s) refl refl refl refl c;
+    opens = λ n link s known at shut u c. moved_covers is_parked _ s (opened n link s) refl refl refl refl c;
   }
 
   sends_covers : (choice : Choice) (n : ℕ) (link : LinkState) (s : State) → Covers s → Covers (sends choice n s link).state
@@ -194,8 +195,5 @@ module _ (P : ℕ → List ℕ → Type 0) (Q : ℕ → Type 0) where
         let count = (part_of link.control (window_of n link s.rows) (head_of unit) (is_msu unit)).acked in
         covers_kept s _ refl refl g.kept.count (g.kept.numbered (given s) c.numbered)
         (g.kept.bodies (given s) c.numbered) (turned_stay given_up (is_unacked n) refl (Acked n) count s.rows) c;
-    rises = λ n link e at u.
-        covers_kept s _ refl refl u.kept.count (u.kept.numbered (given s) c.numbered)
-        (u.kept.bodies (given s) c.numbered)
-        (moved_stay given_up is_parked refl (given s) (all_with (Waiting n)) s.rows c.numbered) c;
+    rises = λ n link e at. covers_kept s (risen n s) refl refl refl c.numbered (λ number. refl) (λ number e. e) c;
   })

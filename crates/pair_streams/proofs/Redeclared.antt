@@ -19,13 +19,13 @@ use Rattle.set_route.proofs.Places.{again_at}
 use Rattle.set_model.specs.Changeover.{overdue_via, redeclared_from, redeclared_if, redeclared_on}
 use Rattle.set_model.specs.Rows.{is_on, is_parked}
 use Rattle.set_model.specs.Sound.{IsSound}
-use Rattle.set_model.specs.State.{State, fate_at, given, is_up}
+use Rattle.set_model.specs.State.{State, fate_at, given, is_open}
 use Rattle.set_model.proofs.Order.{coded_at}
 use Rattle.set_model.proofs.Places.{itself, false_true}
 use Rattle.set_model.proofs.SoundBack.{overdue_open, redeclared_sound}
 use Rattle.pair_model.specs.Run.{Message}
 use Rattle.pair_changeover.specs.Pending.{pending, aside, acked_on, accepted_on}
-use Rattle.pair_changeover.proofs.Changes.{Grows, grown, ungrown, IsNew, to_wait, to_hold, held_none}
+use Rattle.pair_changeover.proofs.Changes.{Grows, grown, ungrown, IsNew, to_wait, to_hold, held_open}
 use Rattle.pair_changeover.proofs.Table.{new_message}
 use Rattle.pair_changeover.proofs.Views.{view, In}
 use Rattle.pair_streams.specs.Streams.{is_of}
@@ -51,21 +51,21 @@ module _ (code via : ℕ) (s f : State) (sound : IsSound s) (due : overdue_via (
   open_via = overdue_open (code_of code s.routing) s.rows via due
 
   new_at : (l : ℕ) → IsNew (accepted_on l f - acked_on l s) l (given s) s.rows body fate
-  new_at l = go (is_up via s) refl
+  new_at l = go (is_open via s) refl
     where
-      go : (b : Bool) → is_up via s ≡ b → IsNew (accepted_on l f - acked_on l s) l (given s) s.rows body (cond b (Waiting via) (Held via))
-      go true e = to_wait via (λ same. held_none s l sound (subst (λ (n : ℕ). is_up n s ≡ true) (eqb-true via l same) e))
+      go : (b : Bool) → is_open via s ≡ b → IsNew (accepted_on l f - acked_on l s) l (given s) s.rows body (cond b (Waiting via) (Held via))
+      go true e = to_wait via (λ same. held_open s l sound (subst (λ (n : ℕ). is_open n s ≡ true) (eqb-true via l same) e))
       go false e = to_hold via
 
   on_link : (l : ℕ) → is_on l fate ≡ (via == l)
-  on_link l = go (is_up via s)
+  on_link l = go (is_open via s)
     where
       go : (b : Bool) → is_on l (cond b (Waiting via) (Held via)) ≡ (via == l)
       go true = refl
       go false = refl
 
   not_aside : is_parked fate ≡ false
-  not_aside = go (is_up via s)
+  not_aside = go (is_open via s)
     where
       go : (b : Bool) → is_parked (cond b (Waiting via) (Held via)) ≡ false
       go true = refl

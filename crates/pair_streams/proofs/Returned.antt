@@ -18,7 +18,7 @@ use Rattle.set_route.proofs.Places.{answered_at}
 use Rattle.set_route.proofs.Alone as route
 use Rattle.set_model.specs.Rows.{Row, standing, is_waiting, is_held, is_back, is_parked, wait, held, parked, all_with}
 use Rattle.set_model.specs.Sound.{IsSound}
-use Rattle.set_model.specs.State.{State, is_up}
+use Rattle.set_model.specs.State.{State, is_open}
 use Rattle.set_model.specs.Changeover.{acknowledged_code}
 use Rattle.set_model.proofs.Order.{coded_at}
 use Rattle.set_model.proofs.Rows.{moved_same}
@@ -68,14 +68,14 @@ module _ (code : ℕ) (s f : State) (sound : IsSound s) where
       other (Discarded cause) e = refl
 
   -- a stream that comes back by the code goes home; its home is up
-  home_up : (stream : ℕ) (to c via : ℕ) → place_of stream s.routing ≡ Changing to c via → (c == code) ≡ true → (to_home ≡ to) × (is_up to_home s ≡ true)
-  home_up stream to c via is e =
+  home_open : (stream : ℕ) (to c via : ℕ) → place_of stream s.routing ≡ Changing to c via → (c == code) ≡ true → (to_home ≡ to) × (is_open to_home s ≡ true)
+  home_open stream to c via is e =
       let coded = coded_at s.routing stream sound.routing to c via is in
       let same : c ≡ code = eqb-true c code e in
-      (ap home_of (sym same) ∙ coded.0, ap (λ (n : ℕ). is_up (home_of n) s) (sym same) ∙ (sound.codes c).home_up via coded.1)
+      (ap home_of (sym same) ∙ coded.0, ap (λ (n : ℕ). is_open (home_of n) s) (sym same) ∙ (sound.codes c).home_open via coded.1)
 
   -- WHERE ITS HOME IS UP
-  module _ (up : is_up to_home s ≡ true) where
+  module _ (up : is_open to_home s ≡ true) where
     abbrev adds : ℕ → List Message
     adds = comes_home code s f sound
 
@@ -90,26 +90,26 @@ module _ (code : ℕ) (s f : State) (sound : IsSound s) where
     users_parked m a = turned_users (is_back code) (all_with (Waiting to_home)) (code_back code) s.routing is_parked s.rows sound.backs m a
 
   -- where it isn't, nothing changes
-  rows_same : is_up to_home s ≡ false → gone.rows ≡ s.rows
+  rows_same : is_open to_home s ≡ false → gone.rows ≡ s.rows
   rows_same down = none_back code s sound down
 
-  queues_same : is_up to_home s ≡ false → (l : ℕ) → pending l gone f ≡ pending l s f
+  queues_same : is_open to_home s ≡ false → (l : ℕ) → pending l gone f ≡ pending l s f
   queues_same down l = rw (rows_same down) refl
 
-  aside_stays : is_up to_home s ≡ false → aside gone ≡ aside s
+  aside_stays : is_open to_home s ≡ false → aside gone ≡ aside s
   aside_stays down = rw (rows_same down) refl
 
   -- no order comes to stand there
   pub gone_orders : (order : Order) (m : Message) → In m (view gone f) → order_any m.body ≡ Some order → In m (view s f)
-  gone_orders order m i is = go (is_up to_home s) refl
+  gone_orders order m i is = go (is_open to_home s) refl
     where
-      go : (b : Bool) → is_up to_home s ≡ b → In m (view s f)
+      go : (b : Bool) → is_open to_home s ≡ b → In m (view s f)
       go true up = added_order s gone f (adds up) (messages (parked rows_turned)) (queues up)
           (releases_aside code s f sound) (users_added up) (users_parked up) order m i is
       go false down = same_in s gone f (queues_same down) (aside_stays down) m i
 
   module _ (offered got lost : ℕ → List Message) (w : Flows s f offered got lost) where
-    module _ (up : is_up to_home s ≡ true) where
+    module _ (up : is_open to_home s ≡ true) where
       parts : (other : Fate → Bool) (b : Bool) (stream : ℕ) → other (Waiting to_home) ≡ b
           → those_of stream (messages (standing other rows_turned)) ≡ cond b (those_of stream (back_by code s)) []
       parts other b stream e =
@@ -170,7 +170,7 @@ module _ (code : ℕ) (s f : State) (sound : IsSound s) where
         on_home = place_then stream low ∙ ap (place_back code) is ∙ rw own refl
 
         home_is : to_home ≡ to
-        home_is = (home_up stream to c via is own).0
+        home_is = (home_open stream to c via is own).0
 
         old : Stands stream (Changing to c via) s f
         old = subst (λ (q : Place). Stands stream q s f) is (w.stands stream low)
@@ -206,7 +206,7 @@ module _ (code : ℕ) (s f : State) (sound : IsSound s) where
         }
 
     -- WHERE IT ISN'T, no stream comes back by the code
-    module _ (down : is_up to_home s ≡ false) where
+    module _ (down : is_open to_home s ≡ false) where
       queue_stays : (p : Place) → queue_at p gone f ≡ queue_at p s f
       queue_stays (On l) = queues_same down l
       queue_stays (Changing to c via) = ap₂ (λ (x y : List Message). x ++ y) (queues_same down via) (rw (rows_same down) refl)
@@ -231,10 +231,10 @@ module _ (code : ℕ) (s f : State) (sound : IsSound s) where
         (apart : (m : Message) → In m (view f s) → Acknowledges code m → m.number ≡ number → ⊥)
         (empty : (stream : ℕ) → stream < 16 → (to via : ℕ) → place_of stream s.routing ≡ Changing to code via
         → those_of stream (pending via s f) ≡ []) where
-      each_kept : (b : Bool) → is_up to_home s ≡ b → (stream : ℕ) → stream < 16 → Kept stream s gone f f
+      each_kept : (b : Bool) → is_open to_home s ≡ b → (stream : ℕ) → stream < 16 → Kept stream s gone f f
       each_kept b u stream low = go b u (place_of stream s.routing) refl
         where
-          back_case : (b : Bool) → is_up to_home s ≡ b → (to c via : ℕ) → place_of stream s.routing ≡ Changing to c via
+          back_case : (b : Bool) → is_open to_home s ≡ b → (to c via : ℕ) → place_of stream s.routing ≡ Changing to c via
               → (own : Bool) → (c == code) ≡ own → Kept stream s gone f f
           back_case true up to c via is true own =
               let same : c ≡ code = eqb-true c code own in
@@ -243,10 +243,10 @@ module _ (code : ℕ) (s f : State) (sound : IsSound s) where
               (those_joined stream (pending via gone f) (back_by c gone)
               ∙ ap₂ (λ (x y : List Message). x ++ y) (queue_same up stream low (Changing to c via) is other via) (ap (those_of stream) (back_stays c other))
               ∙ sym (those_joined stream (pending via s f) (back_by c s)))
-          back_case false down to c via is true own = absurd (false_true (is_up to_home s) down (home_up stream to c via is own).1)
+          back_case false down to c via is true own = absurd (false_true (is_open to_home s) down (home_open stream to c via is own).1)
           back_case false down to c via is false other = down_kept down stream low (Changing to c via) is (rw other refl)
 
-          go : (b : Bool) → is_up to_home s ≡ b → (p : Place) → place_of stream s.routing ≡ p → Kept stream s gone f f
+          go : (b : Bool) → is_open to_home s ≡ b → (p : Place) → place_of stream s.routing ≡ p → Kept stream s gone f f
           go true up (On l) is = stays_kept up stream low (On l) is refl refl (queue_same up stream low (On l) is refl l)
           go true up Nowhere is = stays_kept up stream low Nowhere is refl refl (aside_same up stream)
           go false down (On l) is = down_kept down stream low (On l) is refl
@@ -296,7 +296,7 @@ module _ (code : ℕ) (s f : State) (sound : IsSound s) where
 
       pub releases_flow : Flows gone f offered got lost
       releases_flow =
-          let kept = each_kept (is_up to_home s) refl in
+          let kept = each_kept (is_open to_home s) refl in
           kept_flow s gone f f offered got lost w kept (record {
             few_declared = λ c m i d. w.backing.few_declared c m (gone_orders (Cbd d.link c) m i d.is) d;
             few_acked = w.backing.few_acked;

@@ -3,6 +3,7 @@
 -- which nothing stands. Any other stays: it runs on a link or comes from one that isn't settled, so on another than
 -- this one (`not_settled`). That's the whole argument, case by case on the place (`risen_kept`); the queues are those
 -- of `Rises`, pair_changeover's Passing.antt. Acting.antt uses it.
+use Rattle.set_model.proofs.Lists.{carried_unsettled}
 use Rattle.std.proofs.Common.{arith, refl, ◌≡◌, ◌∙◌, ap, ap₂, sym, subst, ℕ, ◌<◌, ◌==◌, ◌-◌, ◌%◌, Bool, true, false, List, [], ◌∷◌, ◌++◌, slice_get, Some}
 use Rattle.std.proofs.lemmas.Bool.{eqb-true}
 use Rattle.set_route.specs.declared.place.Place.{Place}
@@ -10,7 +11,7 @@ use Rattle.set_route.specs.declared.place.Place.TheVariants.{On, Changing, Nowhe
 use Rattle.set_route.specs.Routing.{place_of, place_raised, code_of, has_messages, raised, Routing, owed_under}
 use Rattle.set_route.proofs.Alone as route
 use Rattle.set_model.specs.Sound.{IsSound, IsPlaced}
-use Rattle.set_model.specs.State.{LinkState, State, has_phase_settled, is_settled, link_is_settled}
+use Rattle.set_model.specs.State.{carries, LinkState, State, has_phase_settled, is_settled, link_is_settled}
 use Rattle.pair_model.specs.Run.{Message, messages}
 use Rattle.pair_changeover.specs.Pending.{queue, pending, aside, acked_of, acked_on, accepted_of, accepted_on}
 use Rattle.pair_changeover.proofs.Passing.{Rises}
@@ -57,14 +58,14 @@ module _ (k : ℕ) (s t f g : State) (sound : IsSound s) (a : Rises k s t) (b : 
     used_then = ap (has_messages stream) routing ∙ (route.alone s.routing stream sound.routing low).raised_messages k
 
     -- it neither ran on the link nor came from it, which was settled
-    not_settled : (l : ℕ) → (link : LinkState) × (slice_get s.links l ≡ Some link) × (has_phase_settled link.phase ≡ false) → (k == l) ≡ false
+    not_settled : (l : ℕ) → (link : LinkState) × (slice_get s.links l ≡ Some link) × (carries link ≡ true) → (k == l) ≡ false
     not_settled l there = go (k == l) refl
       where
         go : (c : Bool) → (k == l) ≡ c → (k == l) ≡ false
         go false e = e
         go true e =
             let here : is_settled l s ≡ true = subst (λ (n : ℕ). is_settled n s ≡ true) (eqb-true k l e) a.settled_was in
-            let never : true ≡ false = sym here ∙ ap link_is_settled there.1 ∙ there.2 in
+            let never : true ≡ false = sym here ∙ ap link_is_settled there.1 ∙ carried_unsettled there.0.tested there.0.phase there.2 in
             absurd cc
 
     -- where it was aside

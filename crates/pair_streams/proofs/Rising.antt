@@ -12,7 +12,7 @@ use Rattle.set_events.specs.declared.event.Event.TheVariants.{Offer}
 use Rattle.set_model.specs.Rows.{orders_changed, Discarded, changed, is_unacked, is_waiting, is_on, is_back, is_back_to, appended, stream_of}
 use Rattle.set_model.specs.State.{all_finished, given, State, target, with_link}
 use Rattle.set_model.specs.declared.phase.Phase.TheVariants.{Settled}
-use Rattle.set_model.specs.Step.{controlled, next, offer_refusal, offered, rises, step}
+use Rattle.set_model.specs.Step.{opened, risen, controlled, next, offer_refusal, offered, rises, step}
 use Rattle.set_model.specs.Changeover.{acknowledged_by, acknowledged_code, answered_link, declared, fate_on, left_by, moved_over, redeclared_on, released, taken_back, withdrawn}
 use Rattle.l3_orders.specs.Grammar.{text}
 use Rattle.set_model.proofs.Ahead.{put_length}
@@ -83,6 +83,7 @@ small Known May = record {
   redeclares = λ code via s due. more_appended s (redeclared_on code (Some via) s) _ _ refl refl;
   acknowledges_back = λ code s known. same_many s (acknowledged_code code s) refl (moved_length (is_back code) _ s.rows);
   releases = λ code s known. same_many s (released code s) refl (moved_length (is_back code) _ s.rows);
+  opens = λ n link s known at shut u. same_many s (opened n link s) refl u.kept.count;
 }
 
 pub never_fewer : (s : State) (event : Event) → given s ≤ given (step s event).state
@@ -94,7 +95,7 @@ never_fewer s event = step_walks s More (More s) event (record {
   takes = λ body rest e there. omega arith;
   sends = λ n link t e more at g. omega (arith, more, same_many t (next n t link).state refl g.kept.count);
   hears = λ n unit link e fits at g. same_many s (controlled unit n s link) refl g.kept.count;
-  rises = λ n link e at u. same_many s (rises n s Settled).state refl u.kept.count;
+  rises = λ n link e at. same_many s (risen n s) refl refl;
 })
 
 -- SO WHAT WAS OFFERED rises

@@ -21,10 +21,10 @@ use Rattle.set_model.specs.declared.reached.Reached.TheVariants.{Upto}
 use Rattle.set_model.specs.Changeover.{fate_on, acknowledged_by, is_reasonable, reached_by, settled}
 use Rattle.set_model.specs.Rows.{Row, standing, is_on, is_unacked, is_back, is_parked, turned, all_with}
 use Rattle.set_model.specs.Sound.{IsSound}
-use Rattle.set_model.specs.State.{LinkState, State, has_phase_up, is_up, link_is_up, target}
+use Rattle.set_model.specs.State.{open_link, is_open, link_is_open, LinkState, State, has_phase_up, is_up, link_is_up, target}
 use Rattle.set_model.proofs.Order.{coded_at}
 use Rattle.set_model.proofs.Rows.{turned_same, moved_same}
-use Rattle.set_model.proofs.Lists.{map_set_same, none_up}
+use Rattle.set_model.proofs.Lists.{map_set_same, none_open}
 use Rattle.set_model.proofs.Settling.{no_target}
 use Rattle.set_model.proofs.Places.{apart, false_true, itself}
 use Rattle.set_model.proofs.Walk.{IsAt}
@@ -69,7 +69,7 @@ module _ (fsn n : ℕ) (link : LinkState) (s f : State) (sound : IsSound s) (at 
   reasonable = r.reasonable
 
   same_target : target (acknowledged_by (reached_by fsn n link s.rows) n link s).links ≡ target s.links
-  same_target = ap target_of (map_set_same (λ (l : LinkState). has_phase_up l.phase) s.links n link _ at.there refl)
+  same_target = ap target_of (map_set_same (λ (l : LinkState). open_link l) s.links n link _ at.there refl)
 
   routing_then : after.routing ≡ streams_settled n (target s.links) s.routing
   routing_then = rw (reasonable, same_target) refl
@@ -312,11 +312,11 @@ module _ (fsn n : ℕ) (link : LinkState) (s f : State) (sound : IsSound s) (at 
       has_target : (to code via : ℕ) → place_of stream s.routing ≡ Changing to code via → target s.links ≡ None → ⊥
       has_target to code via is e =
           let coded = coded_at s.routing stream sound.routing to code via is in
-          go (slice_get s.links (home_of code)) refl ((sound.codes code).home_up via coded.1)
+          go (slice_get s.links (home_of code)) refl ((sound.codes code).home_open via coded.1)
         where
-          go : (o : Option LinkState) → slice_get s.links (home_of code) ≡ o → is_up (home_of code) s ≡ true → ⊥
-          go None g up = absurd (let never : false ≡ true = ap link_is_up (sym g) ∙ up in cc)
-          go (Some other) g up = false_true (has_phase_up other.phase) (none_up s.links (home_of code) other e g) (ap link_is_up (sym g) ∙ up)
+          go : (o : Option LinkState) → slice_get s.links (home_of code) ≡ o → is_open (home_of code) s ≡ true → ⊥
+          go None g is = absurd (let never : false ≡ true = ap link_is_open (sym g) ∙ is in cc)
+          go (Some other) g is = false_true (open_link other) (none_open s.links (home_of code) other e g) (ap link_is_open (sym g) ∙ is)
 
       via_kept : (to code : ℕ) → place_of stream s.routing ≡ Changing to code n → (there : Option ℕ) → target s.links ≡ there → Kept stream s after f f
       via_kept to code is None e = absurd (has_target to code n is e)

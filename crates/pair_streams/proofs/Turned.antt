@@ -22,7 +22,7 @@ use Rattle.set_route.proofs.Alone as route
 use Rattle.set_model.specs.declared.phase.Phase.TheVariants.{Up}
 use Rattle.set_model.specs.Rows.{Row, standing, is_waiting, is_held, is_back, is_back_to, is_parked, wait, held, parked}
 use Rattle.set_model.specs.Sound.{IsSound, IsBackOf}
-use Rattle.set_model.specs.State.{LinkState, State, is_up, fate_at}
+use Rattle.set_model.specs.State.{LinkState, State, is_open, fate_at}
 use Rattle.set_model.specs.Changeover.{out_of_service, left_by}
 use Rattle.set_model.proofs.Order.{coded_at}
 use Rattle.set_model.proofs.Rows.{moved_more}
@@ -184,7 +184,7 @@ module _ (blind : Bool) (k : ℕ) (link : LinkState) (s f : State) (sound : IsSo
     adds_none off l = two_parts l ∙ ap₂ (λ (x y : List Message). x ++ y) (none_turned (is_waiting l) off) (none_turned (is_held l) off)
 
     module _ (to code via : ℕ) (is : place ≡ Changing to code via) (on : (to == k) ≡ true) where
-      waits_at : (l : ℕ) (b : Bool) → is_up via out ≡ b → those_of stream (adds l) ≡ cond (via == l) (those_of stream (back_by code s)) []
+      waits_at : (l : ℕ) (b : Bool) → is_open via out ≡ b → those_of stream (adds l) ≡ cond (via == l) (those_of stream (back_by code s)) []
       waits_at l true up =
           two_parts l
           ∙ ap₂ (λ (x y : List Message). x ++ y)
@@ -198,14 +198,14 @@ module _ (blind : Bool) (k : ℕ) (link : LinkState) (s f : State) (sound : IsSo
           (all_turned (is_held l) to code via is on (via == l) (ap (λ (c : Bool). is_held l (cond c (Waiting via) (Held via))) down))
 
       pub adds_all : (l : ℕ) → those_of stream (adds l) ≡ cond (via == l) (those_of stream (back_by code s)) []
-      adds_all l = waits_at l (is_up via out) refl
+      adds_all l = waits_at l (is_open via out) refl
 
-      none_parked : (b : Bool) → is_up via out ≡ b → is_parked (fate_at (On via) out) ≡ false
+      none_parked : (b : Bool) → is_open via out ≡ b → is_parked (fate_at (On via) out) ≡ false
       none_parked true e = rw e refl
       none_parked false e = rw e refl
 
       pub parks_none : those_of stream (messages (parked rows_turned)) ≡ []
-      parks_none = all_turned is_parked to code via is on false (none_parked (is_up via out) refl)
+      parks_none = all_turned is_parked to code via is on false (none_parked (is_open via out) refl)
 
   -- nothing is parked by it
   module _ (stream : ℕ) (low : stream < 16) where

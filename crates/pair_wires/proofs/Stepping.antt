@@ -14,7 +14,7 @@ use Rattle.set_events.specs.declared.event.Event.{Event}
 use Rattle.set_events.specs.declared.history.Entry.{Entry}
 use Rattle.set_model.specs.History.{Base, LinkSet, entries_in, longest_history}
 use Rattle.set_model.specs.State.{LinkState, State, has_phase_up}
-use Rattle.set_model.specs.Step.{NotUp, Nothing, comes_back, redeclares, refused, step, with_known}
+use Rattle.set_model.specs.Step.{restores, NotUp, Nothing, redeclares, refused, step, with_known}
 use Rattle.set_model.proofs.Lists.{get_set_other, get_set_same, within}
 use Rattle.set_model.proofs.Walk.{link_count_stays, step_is}
 use Rattle.set_octets.specs.Lives.{GoesOn, IsNoUp}
@@ -293,7 +293,7 @@ module _ (a b : SetConfig) (end : End) (full : LinkSet) (far : LinkSet) (w : Goi
   no_link : (link : ℕ) → entry.event ≡ Event.Restore link → slice_get full.state.links link ≡ None → entry.answer ≡ (step full.state entry.event).answer → AsksOn
   no_link link event none answer_is =
       let o = ap (λ (e : Event). step full.state e) event ∙ step_is full.state (Event.Restore link)
-      ∙ ap (λ (found : Option LinkState). with_known found full.state (λ at. if has_phase_up at.phase then comes_back link full.state else refused full.state NotUp)) none in
+      ∙ ap (λ (found : Option LinkState). with_known found full.state (λ at. if has_phase_up at.phase then restores link full.state at else refused full.state NotUp)) none in
       let k = vain_keeps a b end far 0 full w entry answer_is (ap (λ x. x.state) o) (ap handed_by (answer_is ∙ ap (λ x. x.answer) o))
       (λ past. ap (λ (e : Event). (past_asked e (Answered entry.answer) past).offered) event) in
       record { next = k.next; covers = k.covers; same_lines = k.same_lines }

@@ -4,7 +4,7 @@
 -- ignored (`none_there`, `not_left`), which link is the target once one is left (`beside_left`), and that there's room
 -- (`here_room`, `has_room_left`). Case by case, without induction. The functions of src/changeover.rt, src/settling.rt
 -- and src/changeback.rt use it; so do set_traffic's Traffic.antt and set_step's Kept.antt.
-use Rattle.std.proofs.Common.{arith, ◌≡◌, ◌∙◌, ap, sym, ◌<◌, ℕ, List, map, length, slice_get, slice_set, slice_index_or, Some, ◌≢◌, false, Option, IfSome, refl, subst, ◌≤◌, None, option_map, true, [], drop, not, ◌==◌}
+use Rattle.std.proofs.Common.{arith, ◌≡◌, ◌∙◌, ap, sym, ◌<◌, ℕ, Bool, List, map, length, slice_get, slice_set, slice_index_or, Some, ◌≢◌, false, Option, IfSome, refl, subst, ◌≤◌, None, option_map, true, [], drop, not, ◌==◌}
 use Rattle.std.proofs.lemmas.Option.{slice_get-get_or}
 use Rattle.set_changeover.specs.Parts.{Link, Parts, kept_of, AtLink, IsOut, IsReach, Gives, Obeys, Phase, Down, IsWhole, IsCounted, AreCounted}
 use Rattle.std.proofs.lemmas.List.{length-map, length-drop}
@@ -12,9 +12,8 @@ use Rattle.std.proofs.lemmas.List.Filters.{length-filter_both}
 use Rattle.set_queues.specs.Messages.{is_order_at}
 use Rattle.set_queues.specs.Queues.{others_in, without}
 use Rattle.set_changeover.specs.Agreement.{Message, Agrees, Holds}
-use Rattle.set_model.specs.State.{LinkState, Profile, Settings, State, has_phase_up, target}
-use Rattle.set_model.proofs.Lists.{map_at, map_set, map_set_same, same_at, present, target_up, within, set_same, at_set}
-use Rattle.std.proofs.lemmas.Simd.{map-map}
+use Rattle.set_model.specs.State.{LinkState, Profile, Settings, State, has_phase_up, link_is_open, open_link, target}
+use Rattle.set_model.proofs.Lists.{map_at, map_set, map_set_same, not_open, same_at, present, target_open, within, set_same, at_set}
 use Rattle.set_queues.specs.Buffers.{Fate, Lists, IsKnown, Waiting, Unacked, Held, with_queue, room_at, profile_at, is_standing, queue_at}
 use Rattle.set_queues.proofs.Soundness.{IsAside, aside_of, on_length, queue_last}
 use Rattle.set_events.specs.declared.answer.Took.TheVariants.{Ignored}
@@ -49,19 +48,16 @@ module _ (links : List Link) (n i : ℕ) (x : Link) (is : i ≡ n) (known : n < 
 
 -- The link that messages are moved to.
 
--- links of the same phases have the same target
-pub same_ups : (old new : List Link) → map (λ (link : Link). link.phase) new ≡ map (λ (link : Link). link.phase) old → map (λ (link : Link). has_phase_up link.phase) new ≡ map (λ (link : Link). has_phase_up link.phase) old
-same_ups old new e = sym (map-map has_phase_up (λ (link : Link). link.phase) new) ∙ ap (map has_phase_up) e ∙ map-map has_phase_up (λ (link : Link). link.phase) old
-
-pub same_target : (old new : List Link) → map (λ (link : Link). link.phase) new ≡ map (λ (link : Link). link.phase) old → target new ≡ target old
-same_target old new e = ap target_of (same_ups old new e)
+-- links of which the same are open have the same target
+pub same_target : (old new : List Link) → map (λ (link : Link). open_link link) new ≡ map (λ (link : Link). open_link link) old → target new ≡ target old
+same_target old new e = ap target_of e
 
 -- the place of what leaves a link that is out of service: it's known, and no queue of the link
 pub place_for : {links read : List Link} (n : ℕ) (o : Option ℕ) (to : Fate) (q : Lists) → read ≡ links → o ≡ target read → IfSome o (λ t. t < length read) → to ≡ fate_on o → length q.links ≡ length links → n < length links → AtLink n links IsOut → IsAside n to q × IfSome o (λ t. t ≢ n)
 place_for {links} {read} n o to q same is below there many known out =
     let x = present links n known in
     let down = out x.0 x.1 in
-    let apart : IfSome o (λ t. t ≢ n) = grind (arith, same_at, target_up) in
+    let apart : IfSome o (λ t. t ≢ n) = grind (arith, same_at, target_open) in
     let known_to : IsKnown (fate_on o) q = grind arith in
     (aside_of o n to q there (omega (arith, many, known)) known_to apart, apart)
 
@@ -69,6 +65,11 @@ place_for {links} {read} n o to q same is below there many known out =
 -- the same of the state that the links stand for
 pub is_in : {A : Type 0} (parts : Parts A) (s : State) (n : ℕ) (phase : Phase) → Agrees (kept_of parts) s → IsHere parts.links.items n phase → IsHere s.links n phase
 is_in parts s n phase a h = rw (← a.stands.links) h
+
+-- whether it's open
+pub open_there : {A : Type 0} (parts : Parts A) (s : State) (n : ℕ) (phase : Phase) (o : Bool) → Agrees (kept_of parts) s → (i : IsHere s.links n phase)
+    → o ≡ link_is_open (slice_get parts.links.items n) → open_link i.link ≡ o
+open_there parts s n phase o a i e = sym (ap link_is_open (ap (λ (ls : List Link). slice_get ls n) a.stands.links ∙ i.there)) ∙ sym e
 
 -- What is answered there.
 pub served : {A : Type 0} (s : State) (n : ℕ) (outcome : LinkState → Outcome) (answer : Answer) (parts : Parts A) (i : IsHere s.links n Up) → Gives (outcome i.link) answer parts → Gives (in_service n s outcome) answer parts
@@ -82,9 +83,10 @@ pub phase_here : (links : List Link) (n : ℕ) (o : Option Link) → slice_get l
 phase_here links n None e = tt
 phase_here links n (Some link) e = record { link = link; there = e; phase_is = refl; known = within links n link e }
 
--- a link that is out
+-- a link that isn't up is out
 pub out_at : (links : List Link) (n : ℕ) (phase : Phase) → IsHere links n phase → has_phase_up phase ≡ false → AtLink n links IsOut
-out_at links n phase h e link there = ap (λ (l : Link). has_phase_up l.phase) (same_at links n h.link link h.there there) ∙ ap has_phase_up h.phase_is ∙ e
+out_at links n phase h e link there =
+    not_open link.tested link.phase (ap (λ (l : Link). has_phase_up l.phase) (same_at links n h.link link h.there there) ∙ ap has_phase_up h.phase_is ∙ e)
 
 -- After room was taken.
 pub agrees_same : {A : Type 0} (old new : Parts A) (s : State) → SameButRoom old new → Agrees (kept_of old) s → Agrees (kept_of new) s
@@ -95,11 +97,11 @@ pub beside_out : (links : List Link) (n : ℕ) → n < length links → AtLink n
 beside_out links n known out =
     let x = present links n known in
     let down = out x.0 x.1 in
-    let there = map_at (λ (link : Link). has_phase_up link.phase) links n x.0 x.1 in
+    let there = map_at (λ (link : Link). open_link link) links n x.0 x.1 in
     grind (arith, set_same)
 
-pub beside_left : (links new : List Link) (n : ℕ) (link : Link) → new ≡ slice_set links n link → has_phase_up link.phase ≡ false → target new ≡ target_beside n links
-beside_left links new n link e out = grind (arith, map_set (λ (link : Link). has_phase_up link.phase) links n link)
+pub beside_left : (links new : List Link) (n : ℕ) (link : Link) → new ≡ slice_set links n link → open_link link ≡ false → target new ≡ target_beside n links
+beside_left links new n link e out = grind (arith, map_set (λ (link : Link). open_link link) links n link)
 
 -- THE WHOLE NUMBERS of a list in which one link changed otherwise
 pub counted_set : (bound : ℕ) (links new : List Link) (n : ℕ) (link : Link) → AreCounted bound links → new ≡ slice_set links n link → IsCounted bound link → AreCounted bound new
@@ -110,7 +112,9 @@ pub whole_of : {A : Type 0} (parts : Parts A) → Holds (kept_of parts) → IsWh
 whole_of parts h = grind (arith, length-map)
 
 pub here_room : {A : Type 0} (parts : Parts A) (n orders : ℕ) (phase : Phase) → IsHere parts.links.items n phase → has_phase_up phase ≡ false → IsReady n orders parts → length (on n parts.queues.lists) ≤ room_at (fate_on (target parts.links.items)) parts.queues.rooms
-here_room parts n orders phase h down r = grind (arith, beside_out, out_at)
+here_room parts n orders phase h down r =
+    let beside = beside_out parts.links.items n h.known (out_at parts.links.items n phase h down) in
+    grind (arith, beside)
 
 -- room for an order once the link is left, and what stood back for it turned
 pub has_room_left : {A : Type 0} (n : ℕ) (old new : Parts A) → IsReady n 1 old → TakesTurns (back_count n old.queues.lists) old.queues new.queues → new.bodies ≡ old.bodies → target new.links.items ≡ target_beside n old.links.items → HasRoom (fate_on (target new.links.items)) new

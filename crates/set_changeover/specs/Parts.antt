@@ -5,7 +5,7 @@ pub use Rattle.set_model.specs.declared.reached.Reached.{Reached}
 pub use Rattle.set_model.specs.declared.reached.Reached.TheVariants.{Upto, Unknown, Unanswered, Unasked}
 use Rattle.set_model.specs.Rows.{Fate, Waiting, Parked}
 use Rattle.l2_units.specs.declared.profile.Profile.{Profile}
-use Rattle.set_model.specs.State.{LinkState, State, settings_of, has_phase_up}
+use Rattle.set_model.specs.State.{LinkState, State, open_link, settings_of}
 use Rattle.set_model.specs.Step.{Answer, Took, Outcome}
 use Rattle.set_model.specs.Changeover.{Obeyed}
 pub use Rattle.set_changeover.specs.declared.link.Link.{Link}
@@ -45,7 +45,7 @@ pub record IsHere (links : List Link) (n : ℕ) (phase : Phase) : Type 0 where
   pub known : n < length links
 
 abbrev pub IsOut : Link → Type 0
-IsOut link = has_phase_up link.phase ≡ false
+IsOut link = open_link link ≡ false
 
 -- the whole numbers are far from the end of their range
 pub record IsCounted (bound : ℕ) (link : Link) : Type 0 where

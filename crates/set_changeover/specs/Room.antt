@@ -7,12 +7,12 @@ use Rattle.set_queues.specs.Settling.{on}
 use Rattle.set_route.specs.Routing.{home_of}
 use Rattle.set_route.specs.Target.{target_of}
 use Rattle.set_model.specs.Changeover.{Order, Coo, Coa, Cbd, Cba, Eco, Eca, fate_on}
-use Rattle.set_model.specs.State.{has_phase_up, target}
+use Rattle.set_model.specs.State.{open_link, target}
 use Rattle.set_changeover.specs.Parts.{Link, Parts, kept_of}
 
 -- the link that messages go to once this one is out of service
 abbrev pub target_beside : ℕ → List Link → Option ℕ
-target_beside number links = target_of (slice_set (map (λ link. has_phase_up link.phase) links) number false)
+target_beside number links = target_of (slice_set (map (λ link. open_link link) links) number false)
 
 -- where an order stands
 abbrev pub order_fate : {A : Type 0} → Parts A → Fate

@@ -4,16 +4,15 @@ ghost use Rattle.set_queues.specs.Backs.{back_count};
 ghost use Rattle.set_route.specs.Routing.{code_for, code_of, home_of};
 ghost use Rattle.set_model.specs.Changeover.{acknowledged_code, can_declare, comes_home, overdue_via, redeclared_if, released, some_declare, some_in_use, some_overdue};
 ghost use Rattle.set_model.specs.State.{State, link_count};
-ghost use Rattle.set_model.specs.Step.{on_link, in_service, comes_back, redeclares, runs_out};
+ghost use Rattle.set_model.specs.Step.{on_link, in_service, restores, redeclares, runs_out};
 ghost use Rattle.set_changeover.specs.Agreement.{Holds, StandsFor};
 ghost use Rattle.set_changeover.specs.Parts.{Answers, Becomes, IsWhole, kept_of};
 ghost use Rattle.set_changeover.specs.Room.{back_at, home_room, CanComeBack, HasRoomAgain};
 
 use super::changeover::body_of;
-use super::parts::{Parts, fate_where, phase_of, stand_last, unserved};
+use super::parts::{Parts, fate_where, is_open, stand_last, unserved};
 use l3_orders::Order;
 use set_events::{Fate, Refusal, Reply};
-use set_model::Phase;
 use set_route::{Code, Place, changeback_code, home_of_code};
 use std::alloc::{AllocError, Allocator};
 
@@ -30,11 +29,15 @@ pub fn restore<A: Allocator + Copy>(
 ) -> Result<(), AllocError>
     requires holds { Holds (kept_of parts.old) }
     ensures ok { OnOk result (Answers parts.old parts.new reply.new
-        (λ s. in_service number s (λ link. comes_back number s))) }
+        (λ s. in_service number s (restores number s))) }
     ensures err { OnErr result (kept_of parts.new ≡ kept_of parts.old) }
 {
     if let Some(why) = unserved(parts, number) {
         reply.set_refused(why);
+        return Ok(());
+    }
+    if !is_open(parts, number) {
+        reply.set_refused(Refusal::NotUp);
         return Ok(());
     }
     if !has_alternative(parts, number) {
@@ -147,9 +150,7 @@ fn may_declare<A: Allocator + Copy>(parts: &Parts<A>, home: u8, alternative: u8)
     ensures { (s : State) → StandsFor (kept_of parts.now) s
         → result ≡ can_declare home alternative s }
 {
-    alternative != home
-        && phase_of(parts, alternative) == Some(Phase::Up)
-        && parts.routes.can_ask(home, alternative)
+    alternative != home && is_open(parts, alternative) && parts.routes.can_ask(home, alternative)
 }
 
 /// Whether a declaration of this home is on its way no more, and isn't acknowledged.

@@ -3,8 +3,8 @@ ghost use Rattle.std.specs.Prelude.{◌≡◌, ◌<◌, ◌^◌};
 ghost use Rattle.l3_orders.specs.Grammar.{IsOrder};
 ghost use Rattle.set_model.specs.Changeover.{answered_link, reply_of};
 ghost use Rattle.l2_window.specs.Window.{fsn_count};
-ghost use Rattle.set_model.specs.State.{LinkState, new_link, last_accepted};
-ghost use Rattle.set_model.specs.Step.{risen_link};
+ghost use Rattle.set_model.specs.State.{LinkState, new_link, open_link, last_accepted};
+ghost use Rattle.set_model.specs.Step.{opened_link, risen_link};
 
 use super::control::Control;
 use l2_units::Profile;
@@ -18,6 +18,8 @@ use std::marker::Model;
 pub struct Link {
     /// Where it stands in its life.
     pub phase: Phase,
+    /// In that life it was tested, or needs no test.
+    pub tested: bool,
     /// How many numbers its messages have.
     pub profile: Profile,
     /// The last life ended as an emergency: the FSN last accepted wasn't known.
@@ -41,6 +43,7 @@ impl Model for Link {
 
     ghost view = { λ l. record {
       phase = l.phase;
+      tested = l.tested;
       profile = l.profile;
       blind = l.blind;
       answered = l.answered;
@@ -59,6 +62,7 @@ impl Link {
     {
         Link {
             phase: Phase::Settled,
+            tested: false,
             profile,
             blind: false,
             answered: false,
@@ -76,6 +80,7 @@ impl Link {
     {
         Link {
             phase: self.phase,
+            tested: self.tested,
             profile: self.profile,
             blind: self.blind,
             answered: self.answered,
@@ -87,11 +92,12 @@ impl Link {
         }
     }
 
-    /// The link is in service from now on; its error control starts anew.
+    /// The link is in service from now on, but isn't open yet; its error control starts anew.
     pub fn rise(&mut self, profile: Profile, method: Method)
         ensures { self.new ≡ risen_link profile method self.old.late }
     {
         self.phase = Phase::Up;
+        self.tested = false;
         self.profile = profile;
         self.blind = false;
         self.answered = false;
@@ -99,6 +105,23 @@ impl Link {
         self.accepted = 0;
         self.order = 0;
         self.control = Control::new(method);
+    }
+
+    /// It is tested, or needs no test, so it's open for messages while it's in service.
+    pub fn pass_test(&mut self)
+        ensures { self.new ≡ opened_link self.old }
+    {
+        self.tested = true;
+    }
+
+    /// Whether it's open for messages: in service, and tested.
+    pub fn is_open(&self) -> bool
+        ensures { result ≡ open_link self.now }
+    {
+        match self.phase {
+            Phase::Up => self.tested,
+            Phase::Down | Phase::Settled => false,
+        }
     }
 
     /// The FSN last accepted in its present life, or its last one; 127 (wide: 4,095) if it had none.

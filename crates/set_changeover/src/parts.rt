@@ -6,7 +6,7 @@ ghost use Rattle.set_queues.specs.Queues.{behind_orders};
 ghost use Rattle.set_queues.specs.Messages.{IsFit};
 ghost use Rattle.set_model.specs.Rows.{appended, put_ahead};
 ghost use Rattle.set_route.specs.Routing.{IsPlaceOf, place_of};
-ghost use Rattle.set_model.specs.State.{State, LinkState, given, fate_at, target, has_phase_up};
+ghost use Rattle.set_model.specs.State.{State, LinkState, given, fate_at, target, link_is_open, open_link};
 ghost use Rattle.set_model.specs.Step.{Outcome, in_service};
 ghost use Rattle.set_changeover.specs.Agreement.{StandsFor, Agrees, kind_of};
 ghost use Rattle.set_changeover.specs.Parts.{Up, IsWhole, IsHere, Gives, Becomes, kept_of};
@@ -40,37 +40,37 @@ pub struct Parts<A: Allocator = Global> {
     pub inbox: Inbox<A>,
 }
 
-/// The lowest-numbered link that is up, if any (own).
+/// The lowest-numbered link that is open, if any (own).
 pub fn target_of(links: &[Link]) -> Option<u8>
     requires { length links.now ≤ 16 }
     ensures value { result ≡ target links.now }
     ensures below { IfSome result (λ to. to < length links.now) }
 {
-    set_route::target(up_links(links).as_slice())
+    set_route::target(open_links(links).as_slice())
 }
 
-/// The lowest-numbered link that is up beside this one: the target once this one is out of service.
+/// The lowest-numbered link that is open beside this one: the target once this one is out of service.
 fn other_target(links: &[Link], number: u8) -> Option<u8>
     requires few { length links.now ≤ 16 }
     requires known { number < length links.now }
     ensures value { result ≡ target_beside number links.now }
     ensures below { IfSome result (λ to. to < length links.now) }
 {
-    let mut up = up_links(links);
-    up.as_mut_slice()[usize::from(number)] = false;
-    set_route::target(up.as_slice())
+    let mut flags = open_links(links);
+    flags.as_mut_slice()[usize::from(number)] = false;
+    set_route::target(flags.as_slice())
 }
 
-/// Which links are up.
-fn up_links(links: &[Link]) -> ArrayVec<bool, 16>
+/// Which links are open.
+fn open_links(links: &[Link]) -> ArrayVec<bool, 16>
     requires { length links.now ≤ 16 }
-    ensures { result.items ≡ map (λ link. has_phase_up link.phase) links.now }
+    ensures { result.items ≡ map (λ link. open_link link) links.now }
 {
-    let mut up = ArrayVec::new();
+    let mut flags = ArrayVec::new();
     for link in links {
-        up.push(link.phase == Phase::Up);
+        flags.push(link.is_open());
     }
-    up
+    flags
 }
 
 /// Where the link of this number stands in its life, if there is one.
@@ -94,6 +94,16 @@ pub fn unserved<A: Allocator + Copy>(parts: &Parts<A>, number: u8) -> Option<Ref
         None => Some(Refusal::NoSuchLink),
         Some(Phase::Up) => None,
         Some(Phase::Down | Phase::Settled) => Some(Refusal::NotUp),
+    }
+}
+
+/// Whether the link of this number is there, and open.
+pub fn is_open<A: Allocator + Copy>(parts: &Parts<A>, number: u8) -> bool
+    ensures { result ≡ link_is_open (slice_get parts.now.links.items number) }
+{
+    match parts.links.get(usize::from(number)) {
+        Some(link) => link.is_open(),
+        None => false,
     }
 }
 
@@ -235,7 +245,7 @@ pub(crate) fn fate_where<A: Allocator + Copy>(parts: &Parts<A>, place: Place) ->
 {
     parts.queues.is_sound();
     match place {
-        Place::On { link } if phase_of(parts, link) == Some(Phase::Up) => { Fate::Waiting { link } }
+        Place::On { link } if is_open(parts, link) => { Fate::Waiting { link } }
         Place::On { link } => Fate::Held { link },
         Place::Changing { code, .. } => Fate::Back { code },
         Place::Nowhere => Fate::Parked,

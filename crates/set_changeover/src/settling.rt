@@ -4,7 +4,7 @@ ghost use Rattle.set_queues.specs.Buffers.{IsKnown, IsQueued, KeepsRoom, profile
 ghost use Rattle.set_queues.specs.Messages.{fate_at};
 ghost use Rattle.set_queues.specs.Settling.{on};
 ghost use Rattle.set_model.specs.Changeover.{settled, judged, discarded, unanswered, taken_back, fate_on, is_told};
-ghost use Rattle.set_model.specs.State.{State, LinkState, target};
+ghost use Rattle.set_model.specs.State.{State, LinkState, open_link, target};
 ghost use Rattle.set_changeover.specs.Agreement.{StandsFor, Agrees};
 ghost use Rattle.set_changeover.specs.Parts.{unsent_at, Down, IsWhole, AreCounted, AtLink, IsOut, IsReach, Becomes, BecomesAt, kept_of};
 
@@ -15,7 +15,7 @@ use std::alloc::Allocator;
 
 /// The link settles: what reached the far end is acknowledged, and what stands on it is moved.
 ///
-/// Conditions: a link of the set that isn't up, and room for all that stand on it where they go.
+/// Conditions: a link of the set that isn't open, and room for all that stand on it where they go.
 #[tactic(auto, using(crate::proofs::Links::same_target))]
 pub fn settle<A: Allocator + Copy>(parts: &mut Parts<A>, number: u8, reached: Reached)
     requires whole { IsWhole parts.old }
@@ -59,8 +59,8 @@ fn judge<A: Allocator + Copy>(parts: &mut Parts<A>, number: u8, reached: Reached
     ensures fewer { length (on number parts.new.queues.lists) ≤ length
         (on number parts.old.queues.lists) }
     ensures rooms { KeepsRoom parts.old.queues.rooms parts.new.queues.rooms }
-    ensures phases { map (λ link. link.phase) parts.new.links.items ≡ map
-        (λ link. link.phase) parts.old.links.items }
+    ensures opens { map (λ link. open_link link) parts.new.links.items ≡ map
+        (λ link. open_link link) parts.old.links.items }
     ensures whole { IsWhole parts.new }
 {
     match reached {

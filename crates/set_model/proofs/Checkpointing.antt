@@ -92,11 +92,12 @@ checkpoint_sound s t =
         in_order = before_filter (is_unacked n) (is_waiting n) (λ row. is_unfinished row.fate) s.rows l.in_order;
         held_last = before_filter (λ f. is_unacked n f || is_waiting n f) (is_held n) (λ row. is_unfinished row.fate) s.rows l.held_last;
         none_held = λ up. holds n ∙ l.none_held up;
+        no_users = λ up shut. ap users (there n) ∙ l.no_users up shut;
         in_range = λ up. rw (sent n) (l.in_range up);
         settled = λ done. there n ∙ l.settled done;
       };
       placed = t.placed;
-      none_aside = λ n link at up. aside ∙ t.none_aside n link at up;
+      none_aside = λ n link at o. aside ∙ t.none_aside n link at o;
       all_run = t.all_run;
       codes = λ code. subst (λ (n : ℕ). IsSoundCode s.links n code (code_of code s.routing)) (sym (given_stays s)) (t.codes code);
       backs = each_filter (λ row. IsBackOf s.routing row row.fate) (λ row. IsBackOf s.routing row row.fate)

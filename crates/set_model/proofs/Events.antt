@@ -9,7 +9,7 @@ use Rattle.std.proofs.Common.{inl, inr, refl, arith, ◌≡◌, ◌∙◌, ap, �
 use Rattle.std.proofs.lemmas.Bool.Decides.{nat_tests}
 use Rattle.std.proofs.lemmas.List.{append-nil, map-append}
 use Rattle.std.proofs.lemmas.List.Elements.{filter-append}
-use Rattle.set_model.specs.Rows.{DiscardCause, NoAnswer, Fate, Acked, Discarded, Parked, Unacked, Waiting, AreFit, IsHeldLast, IsInOrder, IsNumbered, Row, all_with, appended, back, body_at, changed, counts_of, fated, held, is_held, is_on, is_parked, is_unacked, is_waiting, moved, numbers, on, one_changed, orders_changed, parked, same_fate, waits, is_users, standing, stands_back, total_of, turned, unack, wait, was_acked, with_fate}
+use Rattle.set_model.specs.Rows.{DiscardCause, NoAnswer, Fate, Acked, Discarded, Parked, Unacked, Waiting, AreFit, IsHeldLast, IsInOrder, IsNumbered, Row, all_with, appended, back, body_at, changed, counts_of, fated, held, is_held, is_on, is_parked, is_unacked, is_waiting, moved, numbers, on, one_changed, orders_changed, parked, same_fate, waits, is_users, users, standing, stands_back, total_of, turned, unack, wait, was_acked, with_fate}
 use Rattle.set_model.specs.Control.{Choice, first}
 use Rattle.set_model.specs.Laws.{IsEmptyLink}
 use Rattle.set_model.specs.Sound.{is_unfinished}
@@ -78,6 +78,7 @@ pub record ChangesOn (l : ℕ) (rows new : List Row) : Type 0 where
   pub held_same : held l new ≡ held l rows
   pub parked_same : parked new ≡ parked rows
   pub back_same : back new ≡ back rows
+  pub no_users : users (on l rows) ≡ [] → users (on l new) ≡ []
   pub order_kept : IsInOrder l rows → IsInOrder l new
   pub last_kept : IsHeldLast l rows → IsHeldLast l new
   pub others : (n : ℕ) → (l == n) ≡ false → Untouched n rows new
@@ -97,6 +98,7 @@ module _ (l : ℕ) (test : Fate → Bool) (to : Fate) (rows new : List Row) (i :
         held_same = none (is_held l) (grind arith) (λ f e. grind arith);
         parked_same = none is_parked (grind arith) (λ f e. grind arith);
         back_same = none stands_back (grind arith) (λ f e. grind arith);
+        no_users = i.no_users (is_on l) (λ f e p. grind (arith, goes f e));
         order_kept = order;
         last_kept = last;
         others = λ n d. untouched n rows new (none (is_on n) (grind arith) (λ f e. grind arith));
@@ -172,6 +174,7 @@ pub record TakenBack (from : Fate) (rows new : List Row) : Type 0 where
   pub back_same : back new ≡ back rows
   pub none_parked : parked rows ≡ [] → parked new ≡ []
   pub none_on : (n : ℕ) → on n rows ≡ [] → on n new ≡ []
+  pub no_users : (n : ℕ) → users (on n rows) ≡ [] → users (on n new) ≡ []
   pub order_kept : (n : ℕ) → IsInOrder n rows → IsInOrder n new
   pub last_kept : (n : ℕ) → IsHeldLast n rows → IsHeldLast n new
   pub others : (n : ℕ) → is_waiting n from ≡ false → Untouched n rows new
@@ -191,6 +194,7 @@ taken_back_rows number from rows unsent =
       back_same = i.same stands_back refl (λ f e. rw (goes f e) (grind arith));
       none_parked = i.none is_parked (λ f e p. absurd cc);
       none_on = λ n. i.none (is_on n) (λ f e p. absurd cc);
+      no_users = λ n. i.no_users (is_on n) (λ f e p. absurd cc);
       order_kept = λ n. i.before (is_unacked n) (is_waiting n) (λ f e p. absurd cc) (λ f e p. absurd cc);
       last_kept = λ n. i.before (λ f. is_unacked n f || is_waiting n f) (is_held n) (λ f e p. absurd cc) (λ f e p. absurd cc);
       others = λ n off. untouched n rows new (i.same (is_on n) refl (λ f e. rw (goes f e) (grind arith)));

@@ -16,27 +16,27 @@ use Rattle.l2_units.specs.declared.profile.Profile.{Profile}
 use Rattle.l2_units.specs.Grammar.{head_of as header_in}
 use Rattle.l2_window.specs.Window.{WindowState, fsn_count, fsn_before_first}
 use Rattle.l2_window.proofs.Numbers.{acked_is}
-use Rattle.set_model.specs.Step.{SignalUnit, Fisu, Lssu, Msu, Event, step, brought, rows_sent, takes, is_heard, is_msu, part_in}
+use Rattle.set_model.specs.Step.{SignalUnit, Fisu, Lssu, Msu, Event, UpEvent, opened, risen, step, brought, rows_sent, takes, is_heard, is_msu, part_in}
 use Rattle.set_model.specs.Changeover.{Order, fate_on, queued}
 use Rattle.set_model.specs.Control.{Choice, Control, Basic, Cyclic, Header, part_of, acked_by, is_processed}
 use Rattle.set_model.specs.Frame.{behind, BringsAbout, Concerns, LeavesAlone, MovesAsItsControl, window_after}
-use Rattle.set_model.specs.Rows.{Fate, Waiting, Unacked, IsInOrder, Row, appended, fated, held, is_held, is_on, is_unacked, is_waiting, moved, numbers, standing, unack, wait}
-use Rattle.set_model.specs.Sound.{IsSound}
-use Rattle.set_model.specs.State.{Up, LinkState, State, given, is_up, link_is_up, target, window_of}
-use Rattle.set_model.proofs.Events.{ChangesOn, TakenBack, Unparked, Untouched, untouched, sent, acknowledged, appended_out, numbers_joined}
+use Rattle.set_model.specs.Rows.{Fate, Waiting, Unacked, IsInOrder, Row, all_with, appended, fated, held, is_held, is_on, is_parked, is_unacked, is_waiting, moved, numbers, standing, unack, wait}
+use Rattle.set_model.specs.Sound.{BeginsNone, IsSound}
+use Rattle.set_model.specs.State.{Up, Settled, LinkState, State, given, is_open, link_is_open, target, window_of}
+use Rattle.set_model.proofs.Events.{ChangesOn, TakenBack, Untouched, untouched, sent, acknowledged, appended_out, numbers_joined}
 use Rattle.set_model.proofs.Rows.{fated_none, new_row, moved_same, moved_more}
 use Rattle.set_model.proofs.Lists.{get_set_same, get_set_other, within, target_off}
 use Rattle.set_model.proofs.Places.{apart, apart_back, on_other, not_on_waiting, back_not_on, home_back, code_back}
 use Rattle.set_model.proofs.Staying.{offered_out, not_sent}
-use Rattle.set_model.proofs.SoundBack.{up_not_held, down_not_waiting, alternative_up}
-use Rattle.set_model.proofs.Walk.{step_walks}
+use Rattle.set_model.proofs.SoundBack.{open_not_held, shut_not_waiting, alternative_open}
+use Rattle.set_model.proofs.Walk.{IsAt, KeptBy, step_walks}
 use Rattle.set_model.proofs.Ahead.{gains_then, put_apart, put_gains}
 
 -- ALONE: a link has the messages that it had, with orders among those that wait, and more behind them.
 alone_more : (n : ℕ) (s t : State) (come : List Row) → t.settings ≡ s.settings → slice_get t.links n ≡ slice_get s.links n
     → unack n t.rows ≡ unack n s.rows → wait n t.rows ≡ wait n s.rows ++ wait n come
-    → held n t.rows ≡ held n s.rows ++ held n come → (is_up n s ≡ false → wait n come ≡ [])
-    → (is_up n s ≡ true → held n come ≡ []) → LeavesAlone n s t
+    → held n t.rows ≡ held n s.rows ++ held n come → (is_open n s ≡ false → wait n come ≡ [])
+    → (is_open n s ≡ true → held n come ≡ []) → LeavesAlone n s t
 alone_more n s t come settings link sent waits holds no_wait no_held =
     record {
       settings_same = settings;
@@ -51,7 +51,7 @@ alone_more n s t come settings link sent waits holds no_wait no_held =
 
 -- a new message comes to wait for the link, or to be held for it
 alone_appended : (n : ℕ) (body : List ℕ) (fate : Fate) (s : State) (routing : Routing) → is_unacked n fate ≡ false
-    → (is_up n s ≡ false → is_waiting n fate ≡ false) → (is_up n s ≡ true → is_held n fate ≡ false)
+    → (is_open n s ≡ false → is_waiting n fate ≡ false) → (is_open n s ≡ true → is_held n fate ≡ false)
     → LeavesAlone n s (record s { rows = appended (given s) s.rows body fate; routing = routing })
 alone_appended n body fate s routing unsent waits holds =
     alone_more n s _ (new_row (given s) body fate ∷ []) refl refl
@@ -59,7 +59,7 @@ alone_appended n body fate s routing unsent waits holds =
     (grind (arith, filter-append)) (λ e. grind (arith, waits)) (λ e. grind (arith, holds))
 
 -- an order comes to wait for the link
-alone_queued : (n : ℕ) (order : Order) (s : State) → (is_up n s ≡ false → is_waiting n (fate_on (target s.links)) ≡ false) → LeavesAlone n s (queued order s)
+alone_queued : (n : ℕ) (order : Order) (s : State) → (is_open n s ≡ false → is_waiting n (fate_on (target s.links)) ≡ false) → LeavesAlone n s (queued order s)
 alone_queued n order s waits =
     let body = text s.settings.profile order s.settings.sio s.settings.dpc s.settings.opc in
     let fate = fate_on (target s.links) in
@@ -78,8 +78,8 @@ alone_queued n order s waits =
 alone_moved : (n : ℕ) (test : Fate → Bool) (fate : Row → Fate) (s : State) (links : List LinkState) (routing : Routing)
     → slice_get links n ≡ slice_get s.links n → ((f : Fate) → test f ≡ true → is_on n f ≡ false)
     → ((x : Row) → is_unacked n (fate x) ≡ false)
-    → (link_is_up (slice_get links n) ≡ false → (x : Row) → is_waiting n (fate x) ≡ false)
-    → (link_is_up (slice_get links n) ≡ true → (x : Row) → is_held n (fate x) ≡ false)
+    → (link_is_open (slice_get links n) ≡ false → (x : Row) → is_waiting n (fate x) ≡ false)
+    → (link_is_open (slice_get links n) ≡ true → (x : Row) → is_held n (fate x) ≡ false)
     → LeavesAlone n s (record s { links = links; rows = moved test fate s.rows; routing = routing })
 alone_moved n test fate s links routing same off unsent waits holds =
     alone_more n s _ (map (fated fate) (standing test s.rows)) refl same (grind (arith, moved_same))
@@ -109,26 +109,32 @@ leaves_alone n s event free =
     } in
     let off = λ (m : ℕ) (known : Concerns event m s). apart m n (λ same. free (subst (λ (k : ℕ). Concerns event k s) same known)) in
     let concerned = λ (by : Event) (m : ℕ) (u : State) (e : event ≡ by) (known : Concerns by m u). subst (λ (v : Event). Concerns v m u) (sym e) known in
-    -- what waits for a link that is up waits for no other
-    let up_waits : (to m : ℕ) (u : State) → is_up to u ≡ true → is_up m u ≡ false
+    -- what waits for a link that is open waits for no other
+    let open_waits : (to m : ℕ) (u : State) → is_open to u ≡ true → is_open m u ≡ false
     → is_waiting m (Waiting to) ≡ false = λ to m u up down. grind (arith, nat_tests) in
     let off_waits = λ (links new : List LinkState) (same : slice_get new n ≡ slice_get links n)
-    (down : link_is_up (slice_get new n) ≡ false). not_on_waiting n (fate_on (target links))
+    (down : link_is_open (slice_get new n) ≡ false). not_on_waiting n (fate_on (target links))
     (target_off links n (rw same at down)) in
     let target_unheld : (to : Option ℕ) → is_held n (fate_on to) ≡ false = λ to. grind arith in
     let apart_from = λ (m : ℕ) (rows new : List Row) (g : ChangesOn m rows new). g.others in
-    let risen = λ (m : ℕ) (rows new : List Row) (u : Unparked m rows new). u.others in
+    let comes_up : (m : ℕ) (link : LinkState) → event ≡ UpEvent m → IsAt m link Settled s → LeavesAlone n s (risen m s) =
+    λ m link e at. alone_by s (risen m s) refl
+    (get_set_other s.links m n _ (λ same. free (concerned (UpEvent m) n s e same))) (untouched n s.rows s.rows refl) in
     -- an order that is taken back waited for a link that is concerned
     let back_apart = λ (from : Fate) (rows new : List Row) (g : TakenBack from rows new). g.others n in
+    let opens : (m : ℕ) (link : LinkState) (u : State) → Concerns event m s → IsAt m link Up u → LeavesAlone n u (opened m link u) =
+    λ m link u known at. let apart_is = off m known in alone_moved n is_parked (all_with (Waiting m)) u _ _
+    (get_set_other u.links m n _ (λ same. free (subst (λ (k : ℕ). Concerns event k s) same known)))
+    (λ f e. grind arith) (λ x. refl) (λ e x. grind (arith, nat_tests, apart_is)) (λ e x. refl) in
     let off_from = λ (from : Fate) (all : (m : ℕ) → is_waiting m from ≡ true → Concerns event m s). not_so (is_waiting n from) (λ e. free (all n e)) in
-    step_walks s (LeavesAlone n) (LeavesAlone n s) event
+    let small : KeptBy (λ m. Concerns event m s) (BeginsNone event → ⊥) (LeavesAlone n) =
     (search (
       apart_from,
-      risen,
+      opens,
       back_apart,
       off_from,
-      up_waits,
-      alternative_up,
+      open_waits,
+      alternative_open,
       alone_moved,
       back_not_on,
       code_back,
@@ -144,8 +150,25 @@ leaves_alone n s event free =
       alone_appended,
       alone_queued,
       offered_out,
-      up_not_held,
-      down_not_waiting,
+      open_not_held,
+      shut_not_waiting,
+      off,
+      concerned,
+      get_set_other,
+      eqb-false,
+    ) depth 7) in
+    step_walks s (LeavesAlone n) (LeavesAlone n s) event
+    (search (
+      small,
+      apart_from,
+      comes_up,
+      offered_out,
+      open_not_held,
+      shut_not_waiting,
+      alone_then,
+      alone_by,
+      untouched,
+      alone_appended,
       off,
       concerned,
       inl,

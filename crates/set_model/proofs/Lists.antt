@@ -1,10 +1,10 @@
 -- WHAT A LIST HOLDS when one place of it is set: there what was set (`get_set_same`), elsewhere what it held
 -- (`get_set_other`, `at_set`), so what holds of the new element and of the others holds of each (`each_set`); and
--- images alike (`at_map`, `map_at`). Of a set's links: messages move to a link that is up (`target_up`), and where
--- there's no target none is (`none_up`). It all follows from the standard library's lemmas and set_route's Lowest.antt,
+-- images alike (`at_map`, `map_at`). Of a set's links: messages move to a link that is open (`target_open`), and
+-- where there's no target none is (`none_open`). It all follows from the standard library's lemmas and set_route's Lowest.antt,
 -- without an induction here. Whatever sets a link uses it: SoundLink.antt, SoundBack.antt, Framing.antt, and
 -- pair_changeover's Changes.antt.
-use Rattle.std.proofs.Common.{arith, ◌≡◌, ◌≢◌, ◌==◌, false, ◌∙◌, ap, sym, ◌<◌, length, ℕ, List, map, slice_get, slice_set, Some, ◌⊎◌, option_map, subst, true, None}
+use Rattle.std.proofs.Common.{refl, Bool, Option, [], ◌∷◌, zero, suc, arith, ◌≡◌, ◌≢◌, ◌==◌, false, ◌∙◌, ap, sym, ◌<◌, length, ℕ, List, map, slice_get, slice_set, Some, ◌⊎◌, option_map, subst, true, None}
 pub use Rattle.std.proofs.lemmas.Option.{slice_get_within as within}
 pub use Rattle.std.proofs.lemmas.List.{length-set as length_set, map-set as map_set}
 use Rattle.std.proofs.lemmas.Option.{same_Some, get_or_from_slice_get, slice_get-get_or, slice_get-map, slice_get_cases, slice_get_past}
@@ -14,7 +14,7 @@ use Rattle.std.proofs.Math.Seq.{map-set_same}
 use Rattle.set_route.specs.Target.{IsTarget}
 use Rattle.set_model.specs.Changeover.{fate_on}
 use Rattle.set_model.specs.Rows.{is_on}
-use Rattle.set_model.specs.State.{LinkState, has_phase_up, link_is_up, target}
+use Rattle.set_model.specs.State.{carries_in, has_phase_settled, LinkState, Phase, Up, Down, Settled, has_phase_up, link_is_open, link_is_up, open_link, opens_in, target}
 use Rattle.set_route.proofs.Lowest.{target_is}
 
 pub get_set_same : {X : Type 0} (xs : List X) (n : ℕ) (x : X) → n < length xs → slice_get (slice_set xs n x) n ≡ Some x
@@ -63,16 +63,48 @@ map_at f xs n x there = slice_get-map f xs n ∙ ap (option_map f) there
 pub present : {X : Type 0} (xs : List X) (n : ℕ) → n < length xs → (x : X) × (slice_get xs n ≡ Some x)
 present xs n few = grind (arith, slice_get_cases xs n)
 
+-- of what is set twice the last stays
+pub set_twice : {X : Type 0} (xs : List X) (n : ℕ) (x y : X) → slice_set (slice_set xs n x) n y ≡ slice_set xs n y
+set_twice [] n x y = refl
+set_twice (z ∷ xs) zero x y = refl
+set_twice (z ∷ xs) (suc n) x y = ap (λ (ys : List _). z ∷ ys) (set_twice xs n x y)
+
+-- A link that isn't up isn't open.
+pub not_open : (tested : Bool) (phase : Phase) → has_phase_up phase ≡ false → opens_in tested phase ≡ false
+not_open tested Up e = absurd cc
+not_open tested Down e = refl
+not_open tested Settled e = refl
+
+pub found_shut : (o : Option LinkState) → link_is_up o ≡ false → link_is_open o ≡ false
+found_shut None e = refl
+found_shut (Some link) e = not_open link.tested link.phase e
+
+-- and one that's open is up
+pub opens_up : (tested : Bool) (phase : Phase) → opens_in tested phase ≡ true → has_phase_up phase ≡ true
+opens_up tested Up e = refl
+opens_up tested Down e = absurd cc
+opens_up tested Settled e = absurd cc
+
+pub found_up : (o : Option LinkState) → link_is_open o ≡ true → link_is_up o ≡ true
+found_up None e = absurd cc
+found_up (Some link) e = opens_up link.tested link.phase e
+
+-- one that carries streams isn't settled
+pub carried_unsettled : (tested : Bool) (phase : Phase) → carries_in tested phase ≡ true → has_phase_settled phase ≡ false
+carried_unsettled tested Up e = refl
+carried_unsettled tested Down e = refl
+carried_unsettled tested Settled e = absurd cc
+
 -- The link that messages are moved to.
-pub target_up : (links : List LinkState) (to : ℕ) → target links ≡ Some to → (link : LinkState)
-    × (slice_get links to ≡ Some link) × (has_phase_up link.phase ≡ true)
-target_up links to e = at_map (λ (l : LinkState). has_phase_up l.phase) links to true
-    (subst (IsTarget _) e (target_is (map (λ (l : LinkState). has_phase_up l.phase) links))).0
+pub target_open : (links : List LinkState) (to : ℕ) → target links ≡ Some to → (link : LinkState)
+    × (slice_get links to ≡ Some link) × (open_link link ≡ true)
+target_open links to e = at_map (λ (l : LinkState). open_link l) links to true
+    (subst (IsTarget _) e (target_is (map (λ (l : LinkState). open_link l) links))).0
 
--- where there is none, no link is up
-pub none_up : (links : List LinkState) (n : ℕ) (link : LinkState) → target links ≡ None → slice_get links n ≡ Some link → has_phase_up link.phase ≡ false
-none_up links n link e there = let is = subst (IsTarget _) e (target_is (map (λ (l : LinkState). has_phase_up l.phase) links)) n in grind (arith, map_at, is)
+-- where there is none, no link is open
+pub none_open : (links : List LinkState) (n : ℕ) (link : LinkState) → target links ≡ None → slice_get links n ≡ Some link → open_link link ≡ false
+none_open links n link e there = let is = subst (IsTarget _) e (target_is (map (λ (l : LinkState). open_link l) links)) n in grind (arith, map_at, is)
 
--- what goes there goes to no link that isn't up
-pub target_off : (links : List LinkState) (n : ℕ) → link_is_up (slice_get links n) ≡ false → is_on n (fate_on (target links)) ≡ false
-target_off links n down = grind (arith, nat_tests, target_up)
+-- what goes there goes to no link that isn't open
+pub target_off : (links : List LinkState) (n : ℕ) → link_is_open (slice_get links n) ≡ false → is_on n (fate_on (target links)) ≡ false
+target_off links n shut = grind (arith, nat_tests, target_open)

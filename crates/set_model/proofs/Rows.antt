@@ -183,6 +183,7 @@ pub record InPlace (test : Fate → Bool) (fate : Fate) (xs ys : List Row) : Typ
   pub same : (other : Fate → Bool) → other fate ≡ false → ((f : Fate) → test f ≡ true → other f ≡ false) → standing other ys ≡ standing other xs
   -- places to which none comes that wasn't there
   pub none : (p : Fate → Bool) → ((f : Fate) → test f ≡ true → p fate ≡ true → p f ≡ true) → standing p xs ≡ [] → standing p ys ≡ []
+  pub no_users : (p : Fate → Bool) → ((f : Fate) → test f ≡ true → p fate ≡ true → p f ≡ true) → users (standing p xs) ≡ [] → users (standing p ys) ≡ []
   pub before : (p q : Fate → Bool) → ((f : Fate) → test f ≡ true → p fate ≡ true → p f ≡ true)
       → ((f : Fate) → test f ≡ true → q fate ≡ true → q f ≡ true) → AreBefore p q xs → AreBefore p q ys
 

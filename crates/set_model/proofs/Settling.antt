@@ -11,9 +11,9 @@ use Rattle.set_model.specs.Changeover.{Upto, acknowledged as acknowledged_link, 
 use Rattle.set_model.specs.Laws.{DivertsTo, IsEmptyLink, MovesTheRest, arrived, rest_of}
 use Rattle.set_model.specs.Rows.{IsHeldLast, IsInOrder, Row, all_with, is_on, moved}
 use Rattle.set_model.specs.Sound.{IsSound}
-use Rattle.set_model.specs.State.{Down, Settled, LinkState, State, has_phase_settled, has_phase_up, target}
+use Rattle.set_model.specs.State.{Down, Settled, LinkState, State, has_phase_settled, open_link, target}
 use Rattle.set_model.proofs.Events.{acknowledged, empty_link, moved_to, moved_aside, numbers_joined}
-use Rattle.set_model.proofs.Lists.{map_set_same, target_up}
+use Rattle.set_model.proofs.Lists.{map_set_same, target_open}
 use Rattle.set_model.proofs.Places.{apart}
 
 pub settled_empty : (s : State) (n : ℕ) (link : LinkState) → IsSound s → slice_get s.links n ≡ Some link → link.phase ≡ Settled → IsEmptyLink n s.rows
@@ -24,7 +24,7 @@ module _ (fsn n : ℕ) (link : LinkState) (s : State) (there : slice_get s.links
   settled_rows : (settled (Upto fsn) n link s).rows ≡ moved (is_on n) (all_with (fate_on (target s.links))) (arrived (reached_by fsn n link s.rows) n s.rows)
   settled_rows = rw (
     reasonable,
-    ap target_of (map_set_same (λ (l : LinkState). has_phase_up l.phase) s.links n link
+    ap target_of (map_set_same (λ (l : LinkState). open_link l) s.links n link
         (acknowledged_link (reached_by fsn n link s.rows) link) there refl),
   ) refl
 
@@ -44,7 +44,7 @@ module _ (fsn n : ℕ) (link : LinkState) (s : State) (there : slice_get s.links
 
   -- a link that was left is no target
   pub no_target : link.phase ≡ Down → (t : ℕ) → target s.links ≡ Some t → n ≢ t
-  no_target down t e same = grind (arith, target_up)
+  no_target down t e same = grind (arith, target_open)
 
   pub diverts_the_rest : IsSound s → link.phase ≡ Down
       → DivertsTo (target s.links) (rest_of n (reached_by fsn n link s.rows) s.rows) s.rows

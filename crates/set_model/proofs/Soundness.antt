@@ -22,7 +22,7 @@ use Rattle.set_model.proofs.Framing.{leaves_alone}
 use Rattle.set_model.proofs.Settling.{settled_empty, diverts_the_rest}
 use Rattle.set_model.proofs.Staying.{keeps_messages, step_gains}
 use Rattle.set_model.specs.Frame.{Concerns, LeavesAlone}
-use Rattle.set_model.proofs.SoundBack.{leaves, declares, redeclares, acknowledges_back, releases, rises_sound, moves_off_sound}
+use Rattle.set_model.proofs.SoundBack.{leaves, declares, redeclares, acknowledges_back, releases, risen_sound, opens_sound, moves_off_sound}
 use Rattle.set_model.proofs.SoundLink.{code_closed, with_inbox, acknowledges, gives_up, gives_up_orders, takes_back, answers, withdraws, sends_sound, hears_sound, queues, offers}
 use Rattle.std.proofs.lemmas.List.Elements.{filter-append}
 use Rattle.std.proofs.lemmas.Bool.{cond_both}
@@ -54,7 +54,8 @@ pub ruleset sounds = (
   offers,
   sends_sound,
   hears_sound,
-  rises_sound,
+  risen_sound,
+  opens_sound,
 )
 
 small : (Known : ℕ → Type 0) (May : Type 0) → KeptBy Known May (λ s u. IsSound s → IsSound u)
@@ -209,15 +210,15 @@ offers_straight s body t none r k few =
     ((k == stream_of body) || has_messages k s.routing) s.rows body (fate_at place s) t.numbered (r k few)
     (λ e. grind (arith, nat_tests)) (λ e. grind arith))
 
--- A LINK COMES UP.
-stream_risen : (n : ℕ) (rows : List Row) (k home : ℕ) (used : Bool) (place : Place)
+-- A LINK OPENS.
+stream_opened : (n : ℕ) (rows : List Row) (k home : ℕ) (used : Bool) (place : Place)
     → ((to code via : ℕ) → place ≡ Changing to code via → ⊥) → IsSoundStream k place used rows
     → IsSoundStream k (place_raised n home used place) used (moved is_parked (all_with (Waiting n)) rows)
-stream_risen n rows k home used Nowhere away p =
+stream_opened n rows k home used Nowhere away p =
     stream_moves k Nowhere (On n) is_parked (Waiting n) true (λ f e. grind arith) refl (λ f e. e) (λ e. itself n)
     (λ e. absurd cc) used rows p
-stream_risen n rows k home used (Changing to code via) away p = absurd (away to code via refl)
-stream_risen n rows k home used (On l) away p =
+stream_opened n rows k home used (Changing to code via) away p = absurd (away to code via refl)
+stream_opened n rows k home used (On l) away p =
     let remains = stream_moves k (On l) (On l) is_parked (Waiting n) false (λ f e. grind arith) refl
     (λ f e. grind arith) (λ e. absurd cc) (λ e f h. h) used rows p in
     cond_both ((home == n) && not used) (On n) (On l) (λ (at : Place). IsSoundStream k at used (moved is_parked (all_with (Waiting n)) rows))
@@ -240,13 +241,13 @@ moves_off_straight n s t none r k low =
     (λ f e. grind (arith, nat_tests, never)) (λ e. grind arith) (λ e f h. grind (arith, nat_tests, never))
     (has_messages k s.routing) s.rows (r k low))
 
-rises_straight : (n : ℕ) (s : State) → IsSound s → NoneOpen s.routing → AreTogether s → (k : ℕ) → k < 16
+opens_straight : (n : ℕ) (s : State) → IsSound s → NoneOpen s.routing → AreTogether s → (k : ℕ) → k < 16
     → IsSoundStream k (place_of k (raised n s.routing)) (has_messages k (raised n s.routing))
     (moved is_parked (all_with (Waiting n)) s.rows)
-rises_straight n s t none r k low =
+opens_straight n s t none r k low =
     let a = alone s.routing k t.routing low in
     rw (a.raised_place n, a.raised_messages n)
-    (stream_risen n s.rows k (k % s.routing.links) (has_messages k s.routing) (place_of k s.routing)
+    (stream_opened n s.rows k (k % s.routing.links) (has_messages k s.routing) (place_of k s.routing)
     (λ to code via. never_changing k to code via s.routing t.routing none) (r k low))
 
 -- THE STEP.
@@ -306,7 +307,7 @@ step_straight s event begins t r =
       picked_finish,
       moves_off_straight,
       offers_straight,
-      rises_straight,
+      opens_straight,
       then_straight,
       rests,
       sends,

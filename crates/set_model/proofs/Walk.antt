@@ -9,12 +9,12 @@ use Rattle.std.proofs.lemmas.Bool.{cond_both}
 use Rattle.std.proofs.lemmas.Bool.Decides.{nat_tests}
 use Rattle.l3_orders.specs.Grammar.{link_of, order_of}
 use Rattle.set_route.specs.Routing.{code_for, code_of, home_of}
-use Rattle.set_model.specs.Step.{SignalUnit, Event, BackTimeout, Redeclare, DownEvent, DownBlind, Heard, Next, NoAnswer, Timed, timed, times_out, Offer, Take, UpEvent, step, Outcome, brought, controlled, controls, falls, in_service, next, offer_refusal, offered, part_in, rises, taken, takes, stepped, is_heard, with_known, redeclares, refused, Done, Nothing}
-use Rattle.set_model.specs.Changeover.{Order, Cba, Cbd, Coa, Reached, Unanswered, Unasked, order_at, taken_back, Unknown, Upto, acknowledged_by, answered, answered_link, can_declare, changed_over, cleared, acknowledged as acknowledged_link, acknowledged_code, declared, declared_from, discarded, is_reasonable, overdue_via, redeclared_from, redeclared_if, redeclared_on, is_overtaken, leading, leaving_order, left_by, left_link, moved_over, obeyed, order_obeyed, queued, reached_by, released, released_from, reply_of, settled, some_overdue, withdrawn}
+use Rattle.set_model.specs.Step.{SignalUnit, Event, BackTimeout, Restore, Redeclare, DownEvent, DownBlind, Heard, Next, NoAnswer, Timed, timed, times_out, Offer, Take, UpEvent, step, Outcome, brought, controlled, controls, falls, in_service, restores, NotUp, opened, risen, risen_link, comes_back, next, offer_refusal, offered, part_in, rises, taken, takes, stepped, is_heard, with_known, redeclares, runs_out, refused, Done, Nothing}
+use Rattle.set_model.specs.Changeover.{Order, Cba, Cbd, Coa, Reached, Unanswered, Unasked, order_at, taken_back, Unknown, Upto, acknowledged_by, answered, answered_link, can_declare, changed_over, cleared, acknowledged as acknowledged_link, acknowledged_code, declared, declared_from, some_declare, discarded, is_reasonable, overdue_via, redeclared_from, redeclared_if, redeclared_on, is_overtaken, leading, leaving_order, left_by, left_link, moved_over, obeyed, order_obeyed, queued, reached_by, released, released_from, reply_of, settled, some_in_use, some_overdue, withdrawn}
 use Rattle.set_model.specs.Frame.{BringsAbout, BringsBackTo, Concerns}
 use Rattle.set_model.specs.Rows.{DiscardCause, Emergency, NoAnswer as NoAnswerCame, Unreasonable, Discarded, changed, orders_changed, is_unacked, is_waiting, unack, wait, waits, is_parked, Fate, Waiting, Parked, place}
 use Rattle.set_model.specs.Sound.{BeginsNone}
-use Rattle.set_model.specs.State.{Phase, Down, Settled, Up, LinkState, State, given, is_up, last_accepted, with_link}
+use Rattle.set_model.specs.State.{Phase, Down, Settled, Up, link_count, LinkState, State, given, is_open, link_is_open, open_link, last_accepted, late_at, with_link}
 use Rattle.set_model.proofs.Events.{ChangesOn, Unparked, acknowledged, given_up, orders_given_up, sent_by, TakenBack, taken_back_rows, unparked, withdrawn_rows}
 use Rattle.set_model.proofs.Lists.{within, get_set_same}
 use Rattle.std.proofs.lemmas.List.{length-set}
@@ -49,10 +49,12 @@ pub record KeptBy (Known : ℕ → Type 0) (May : Type 0) (R : State → State �
   pub answers : (n : ℕ) (link : LinkState) (s : State) → Known n → IsAt n link Settled s → R s (with_link n (answered_link link) s)
   pub withdraws : (count n : ℕ) (link : LinkState) (s : State) → Known n → IsAt n link Up s
       → ChangesOn n s.rows (withdrawn count n s).rows → R s (withdrawn count n s)
-  pub declares : May → (home alternative : ℕ) (s : State) → is_up home s ≡ true → can_declare home alternative s ≡ true → R s (declared home alternative s)
+  pub declares : May → (home alternative : ℕ) (s : State) → is_open home s ≡ true → can_declare home alternative s ≡ true → R s (declared home alternative s)
   pub redeclares : (code via : ℕ) (s : State) → overdue_via (code_of code s.routing) s.rows ≡ Some via → R s (redeclared_on code (Some via) s)
   pub acknowledges_back : (code : ℕ) (s : State) → Known (home_of code) → R s (acknowledged_code code s)
   pub releases : (code : ℕ) (s : State) → Known (home_of code) → R s (released code s)
+  pub opens : (n : ℕ) (link : LinkState) (s : State) → Known n → IsAt n link Up s → open_link link ≡ false
+      → Unparked n s.rows (opened n link s).rows → R s (opened n link s)
 
 -- the link of an order, or the home of the code that it acknowledges
 abbrev pub Touches : Order → ℕ → Type 0
@@ -125,13 +127,13 @@ module _ (Known : ℕ → Type 0) (May : Type 0) (R : State → State → Type 0
   answer_walks reached n link phase s known at = grind (arith, settle_walks)
 
   -- changeback
-  pub declare_walks : May → (home alternative n : ℕ) (s : State) → is_up home s ≡ true → R s (declared_from home alternative n s)
-  declare_walks may home alternative zero s up = k.same s
-  declare_walks may home alternative (suc n) s up =
+  pub declare_walks : May → (home alternative n : ℕ) (s : State) → is_open home s ≡ true → R s (declared_from home alternative n s)
+  declare_walks may home alternative zero s o = k.same s
+  declare_walks may home alternative (suc n) s o =
       cond_both (can_declare home alternative s) (declared home alternative s) s (λ (u : State). R s (declared_from home (suc alternative) n u))
-      (λ e. k.after s (declared home alternative s) _ (k.declares may home alternative s up e)
-      (declare_walks may home (suc alternative) n (declared home alternative s) up))
-      (λ e. declare_walks may home (suc alternative) n s up)
+      (λ e. k.after s (declared home alternative s) _ (k.declares may home alternative s o e)
+      (declare_walks may home (suc alternative) n (declared home alternative s) o))
+      (λ e. declare_walks may home (suc alternative) n s o)
 
   redeclare_walks : (code : ℕ) (o : Option ℕ) (s : State) → overdue_via (code_of code s.routing) s.rows ≡ o
       → R s (redeclared_on code o s)
@@ -177,7 +179,7 @@ pub record WalkedBy (s : State) (event : Event) (R : State → State → Type 0)
       → is_heard s.settings.profile unit ≡ true → IsAt n link Up s → ChangesOn n s.rows (controlled unit n s link).rows
       → S (controlled unit n s link)
   pub rises : (n : ℕ) (link : LinkState) → event ≡ UpEvent n → IsAt n link Settled s
-      → Unparked n s.rows (rises n s Settled).state.rows → S (rises n s Settled).state
+      → S (risen n s)
 
 module _ (s : State) (R : State → State → Type 0) (S : State → Type 0) where
   in_walks : (n : ℕ) (f : LinkState → Outcome) → S s → ((link : LinkState) → IsAt n link Up s → S (f link).state) → S (in_service n s f).state
@@ -198,7 +200,13 @@ module _ (s : State) (R : State → State → Type 0) (S : State → Type 0) whe
       (brought part.accept unit) _ (λ b e o f m g. inr (either part.accept unit b e o f m g)))
 
   rise_walks : (n : ℕ) (link : LinkState) → WalkedBy s (UpEvent n) R S → slice_get s.links n ≡ Some link → S (rises n s link.phase).state
-  rise_walks n link w there = let rise = λ (at : IsAt n link Settled s). w.rises n link refl at (unparked n s.rows) in grind (arith, rise)
+  rise_walks n link w there =
+      let new = risen_link s.settings.profile s.settings.method (late_at n s) in
+      let rise : IsAt n link Settled s → S (rises n s Settled).state =
+      λ at. w.rests (risen n s) (rises n s Settled).state (w.rises n link refl at)
+      (w.small.opens n new (risen n s) refl (record { there = get_set_same s.links n new (within s.links n link there); phase_is = refl }) refl (unparked n s.rows)) in
+      let still = w.unmoved in
+      grind (arith, rise, still)
 
   fall_walks : (event : Event) (blind : Bool) (n : ℕ) (link : LinkState) → WalkedBy s event R S → Concerns event n s
       → IsAt n link Up s → S (falls blind n s link).state
@@ -238,6 +246,19 @@ module _ (s : State) (R : State → State → Type 0) (S : State → Type 0) whe
       cond_both (some_overdue (code_for n 0) 16 s) (record { answer = Done; state = redeclared_from (code_for n 0) 16 s }) (refused s Nothing)
       (λ (o : Outcome). S o.state) (λ e. done) (λ e. unmoved)
 
+  back_walks : (n : ℕ) → WalkedBy s (Restore n) R S → is_open n s ≡ true → S (comes_back n s).state
+  back_walks n w o =
+      cond_both (some_declare n 0 (link_count s) s) (record { answer = Done; state = declared_from n 0 (link_count s) s }) (refused s Nothing)
+      (λ (o : Outcome). S o.state)
+      (λ e. w.rests s _ w.unmoved (declare_walks (λ m. Concerns (Restore n) m s) (BeginsNone (Restore n) → ⊥) R w.small (λ b. b) n 0 (link_count s) s o))
+      (λ e. w.unmoved)
+
+  out_walks : (n : ℕ) (o : Option LinkState) → S s → S (released_from (code_for n 0) 16 s) → S (with_known o s (λ link. runs_out n s)).state
+  out_walks n None unmoved done = unmoved
+  out_walks n (Some link) unmoved done =
+      cond_both (some_in_use (code_for n 0) 16 s) (record { answer = Done; state = released_from (code_for n 0) 16 s }) (refused s Nothing)
+      (λ (o : Outcome). S o.state) (λ e. done) (λ e. unmoved)
+
   pub step_walks : (event : Event) → WalkedBy s event R S → S (step s event).state
   unfolding step
   step_walks Take w = take_walks w s.inbox refl
@@ -254,14 +275,17 @@ module _ (s : State) (R : State → State → Type 0) (S : State → Type 0) whe
       let release = w.rests s _ w.unmoved
       (release_walks (λ m. Concerns (BackTimeout n) m s) (BeginsNone (BackTimeout n) → ⊥) R w.small (code_for n 0)
       16 s (λ c low high. omega (arith, low, high))) in
-      grind (arith, release)
+      out_walks n (slice_get s.links n) w.unmoved release
+  step_walks (Restore n) w = in_walks n (restores n s) w.unmoved (λ link at.
+      cond_both (open_link link) (comes_back n s) (refused s NotUp) (λ (o : Outcome). S o.state)
+      (λ e. back_walks n w (ap link_is_open at.there ∙ e)) (λ e. w.unmoved))
   step_walks (DownEvent n) w = in_walks n _ w.unmoved (λ link at. fall_walks (DownEvent n) false n link w refl at)
   step_walks (DownBlind n) w = in_walks n _ w.unmoved (λ link at. fall_walks (DownBlind n) true n link w refl at)
   step_walks (Next n) w = in_walks n _ w.unmoved (λ link at.
       let count = leading (is_overtaken s) (wait n s.rows) in
       w.sends n link (cleared n s) refl (w.small.withdraws count n link s refl at (withdrawn_rows count n s.rows))
       (record { there = at.there; phase_is = at.phase_is }) (sent_by _ n (cleared n s).rows))
-  step_walks event w = grind (arith, hear_walks, rise_walks, declare_walks)
+  step_walks event w = grind (arith, hear_walks, rise_walks)
 
 -- The sealed step is its cases.
 pub step_is : (s : State) (event : Event) → step s event ≡ stepped s event

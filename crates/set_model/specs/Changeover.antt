@@ -12,7 +12,7 @@ use Rattle.set_model.specs.Rows.{Waiting, Acked, Discarded, DiscardCause, Emerge
 use Rattle.set_route.specs.Routing.{place_of, code_for, home_of, code_of, is_free, can_ask, asked, asked_again, answered as answered_code, given_back, left, settled as streams_settled}
 pub use Rattle.set_model.specs.declared.reached.Reached.{Reached}
 pub use Rattle.set_model.specs.declared.reached.Reached.TheVariants.{Upto, Unknown, Unanswered, Unasked}
-use Rattle.set_model.specs.State.{Phase, Up, Down, Settled, Code, Free, Asked, Spent, On, LinkState, State, given, with_link, is_up, fate_at, target, window_of, last_accepted}
+use Rattle.set_model.specs.State.{Phase, Up, Down, Settled, Code, Free, Asked, Spent, On, LinkState, State, given, with_link, is_up, is_open, fate_at, target, window_of, last_accepted}
 
 -- QUEUE: an order stands as a row of its own for the target, ahead of the users' messages that wait for it (own), in the
 -- octets that this set writes
@@ -159,10 +159,10 @@ declared home alternative s = record s {
   routing = asked home alternative (given s) s.routing;
 }
 
--- from another link that is up, if its code is free and streams of the home run there
+-- from another link that is open, if its code is free and streams of the home run there
 abbrev pub can_declare : ℕ → ℕ → State → Bool
 can_declare home alternative s =
-    not (alternative == home) && (is_up alternative s && can_ask home alternative s.routing)
+    not (alternative == home) && (is_open alternative s && can_ask home alternative s.routing)
 
 abbrev pub declared_if : ℕ → ℕ → State → State
 declared_if home alternative s = if can_declare home alternative s then declared home alternative s else s

@@ -11,7 +11,7 @@ use Rattle.set_model.specs.Changeover.{order_at}
 use Rattle.set_model.specs.Rows.{Waiting, Row, stream_of, unack, wait, held, octets_in, is_users}
 use Rattle.set_model.specs.Control.{Choice, first, control_after, window_heard, control_heard}
 use Rattle.set_model.specs.Sound.{IsManaged}
-use Rattle.set_model.specs.State.{On, LinkState, State, is_up, window_of}
+use Rattle.set_model.specs.State.{On, LinkState, State, is_open, window_of}
 use Rattle.set_model.specs.Step.{SignalUnit, Msu, Event, Offer, Next, Heard, UpEvent, DownEvent, DownBlind, NoAnswer, Timed, BackTimeout, choice_in, next, controlled, controls, is_msu, is_heard}
 
 -- the unit brings an order about this link
@@ -49,17 +49,17 @@ pub data Gains (managed : Type 0) : List Row → List Row → Type 0 where
   ahead : (order : Row) (old new : List Row) → (managed → is_users order ≡ false) → Gains managed old new
       → Gains managed old (order ∷ new)
 
--- nothing of the link changed, but that messages may have come: to wait for it if it's up, since it may be the target or
+-- nothing of the link changed, but that messages may have come: to wait for it if it's open, since it may be the target or
 -- an alternative, and else last to be held for it, which turned back from a changeback
 pub record LeavesAlone (number : ℕ) (old new : State) : Type 0 where
   pub settings_same : new.settings ≡ old.settings
   pub link_same : slice_get new.links number ≡ slice_get old.links number
   pub unack_same : unack number new.rows ≡ unack number old.rows
   pub waits : Gains (IsManaged old.settings) (wait number old.rows) (wait number new.rows)
-  pub none_waits : is_up number old ≡ false → wait number new.rows ≡ wait number old.rows
+  pub none_waits : is_open number old ≡ false → wait number new.rows ≡ wait number old.rows
   pub later : List Row
   pub held_later : held number new.rows ≡ held number old.rows ++ later
-  pub none_later : is_up number old ≡ true → later ≡ []
+  pub none_later : is_open number old ≡ true → later ≡ []
 
 -- What is sent moves the window so.
 abbrev pub window_after : Choice → WindowState → WindowState

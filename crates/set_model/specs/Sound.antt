@@ -3,9 +3,9 @@ use Rattle.std.specs.Prelude.{◌≡◌, ◌≢◌, ℕ, Bool, true, false, not,
 use Rattle.set_events.specs.declared.event.Event.{Event}
 use Rattle.set_events.specs.declared.event.Event.TheVariants.{Restore}
 use Rattle.set_route.specs.Routing.{Routing, IsRouting, home_of, code_of, via_of, owed_under, place_of, has_messages, most_links}
-use Rattle.set_model.specs.Rows.{Fate, Back, Row, was_acked, was_discarded, is_on, is_back, is_parked, is_users, stream_of, unack, held, on, back, parked, numbers, Each, IsNumbered, AreFit, IsInOrder, IsHeldLast}
+use Rattle.set_model.specs.Rows.{Fate, Back, Row, was_acked, was_discarded, is_on, is_back, is_parked, is_users, users, stream_of, unack, held, on, back, parked, numbers, Each, IsNumbered, AreFit, IsInOrder, IsHeldLast}
 use Rattle.set_model.specs.Control.{Method, BasicMethod, CyclicMethod, Control, Basic, Cyclic, expected_of}
-use Rattle.set_model.specs.State.{Place, On, Changing, Nowhere, Code, LinkState, State, Settings, given, link_is_up, has_phase_up, has_phase_settled}
+use Rattle.set_model.specs.State.{Place, On, Changing, Nowhere, Code, LinkState, State, Settings, given, link_is_open, open_link, carries, has_phase_up, has_phase_settled}
 use Rattle.l2_window.specs.Window.{fsn_count, most_unacked}
 
 -- A LINK.
@@ -23,8 +23,8 @@ IsInRange (Basic state) unacked = state.cursor ≤ unacked
 IsInRange (Cyclic state) unacked = state.place ≢ 0 → state.place < unacked
 
 -- at most 127 of its messages are unacknowledged (Q.703 5.2.2), and its BSNs are those of the bodies that were
--- accepted; what was sent stands before what waits, and that before what is held; nothing is held for a link that is
--- up, and no message stands on one that settled
+-- accepted; what was sent stands before what waits, and that before what is held; nothing is held for a link that is up, no
+-- user's message stands on one that is up but isn't open, and none at all on one that settled
 pub record IsSoundLink (settings : Settings) (number : ℕ) (link : LinkState) (rows : List Row) : Type 0 where
   pub profile : link.profile ≡ settings.profile
   pub window : length (unack number rows) ≤ most_unacked link.profile
@@ -33,6 +33,7 @@ pub record IsSoundLink (settings : Settings) (number : ℕ) (link : LinkState) (
   pub in_order : IsInOrder number rows
   pub held_last : IsHeldLast number rows
   pub none_held : has_phase_up link.phase ≡ true → held number rows ≡ []
+  pub no_users : has_phase_up link.phase ≡ true → open_link link ≡ false → users (on number rows) ≡ []
   pub in_range : has_phase_up link.phase ≡ true → IsInRange link.control (length (unack number rows))
   pub settled : has_phase_settled link.phase ≡ true → on number rows ≡ []
 
@@ -69,12 +70,12 @@ abbrev pub IsAscending : List ℕ → Type 0
 IsAscending [] = Unit {0}
 IsAscending (n ∷ ns) = AreAbove n ns × IsAscending ns
 
--- on a link of the set that isn't settled, or from one, or nowhere
+-- on a link of the set that can carry it, or from one, or nowhere
 abbrev pub IsPlaced : List LinkState → Place → Type 0
 IsPlaced links (On number) =
-    (link : LinkState) × (slice_get links number ≡ Some link) × (has_phase_settled link.phase ≡ false)
+    (link : LinkState) × (slice_get links number ≡ Some link) × (carries link ≡ true)
 IsPlaced links (Changing to code via) =
-    (link : LinkState) × (slice_get links via ≡ Some link) × (has_phase_settled link.phase ≡ false)
+    (link : LinkState) × (slice_get links via ≡ Some link) × (carries link ≡ true)
 IsPlaced links Nowhere = Unit {0}
 
 -- its unfinished messages stand in the order of their numbers, and all where it runs; one that never had a message
@@ -96,10 +97,10 @@ IsBackOf routing row _ = Unit {0}
 abbrev pub AreBack : Routing → List Row → Type 0
 AreBack routing rows = Each (λ row. IsBackOf routing row row.fate) rows
 
--- the home of an open code is up, and the link from which its streams come isn't settled; each acknowledgement that is owed
--- is that of a message
+-- the home of an open code is open, and the link from which its streams come can carry them; each acknowledgement that is
+-- owed is that of a message
 pub record IsSoundCode (links : List LinkState) (given code : ℕ) (was : Code) : Type 0 where
-  pub home_up : (via : ℕ) → via_of was ≡ Some via → link_is_up (slice_get links (home_of code)) ≡ true
+  pub home_open : (via : ℕ) → via_of was ≡ Some via → link_is_open (slice_get links (home_of code)) ≡ true
   pub via_stands : (via : ℕ) → via_of was ≡ Some via → IsPlaced links (On via)
   pub few : owed_under was ≤ given
 
@@ -126,11 +127,11 @@ pub record IsSound (s : State) : Type 0 where
   pub links : (number : ℕ) (link : LinkState) → slice_get s.links number ≡ Some link
       → IsSoundLink s.settings number link s.rows
   pub placed : (stream : ℕ) → stream < 16 → IsPlaced s.links (place_of stream s.routing)
-  -- while a link is up nothing is parked, and no stream runs nowhere
+  -- while a link is open nothing is parked, and no stream runs nowhere
   pub none_aside : (number : ℕ) (link : LinkState) → slice_get s.links number ≡ Some link
-      → has_phase_up link.phase ≡ true → parked s.rows ≡ []
+      → open_link link ≡ true → parked s.rows ≡ []
   pub all_run : (number : ℕ) (link : LinkState) → slice_get s.links number ≡ Some link
-      → has_phase_up link.phase ≡ true → (stream : ℕ) → stream < 16 → place_of stream s.routing ≢ Nowhere
+      → open_link link ≡ true → (stream : ℕ) → stream < 16 → place_of stream s.routing ≢ Nowhere
   pub codes : (code : ℕ) → IsSoundCode s.links (given s) code (code_of code s.routing)
   -- what stands back does so in the order of its numbers
   pub backs : AreBack s.routing s.rows

@@ -21,6 +21,8 @@ pub use Rattle.set_route.specs.declared.place.Code.{Code}
 -- or its last one
 pub record LinkState : Type 0 where
   pub phase : Phase
+  -- in that life it was tested, or needs no test
+  pub tested : Bool
   -- how many numbers its messages have
   pub profile : Profile
   -- that life ended without the FSN last accepted being known: emergency changeover (Q.704 5.6)
@@ -80,6 +82,7 @@ pub record State : Type 0 where
 abbrev pub new_link : Profile → Method → LinkState
 new_link profile method = record {
   phase = Settled;
+  tested = false;
   profile = profile;
   blind = false;
   answered = false;
@@ -134,6 +137,30 @@ link_is_settled (Some link) = has_phase_settled link.phase
 abbrev pub is_up : ℕ → State → Bool
 is_up number s = link_is_up (slice_get s.links number)
 
+-- a link that is in service and tested is open for messages
+abbrev pub opens_in : Bool → Phase → Bool
+opens_in tested Up = tested
+opens_in tested _ = false
+
+abbrev pub open_link : LinkState → Bool
+open_link link = opens_in link.tested link.phase
+
+abbrev pub link_is_open : Option LinkState → Bool
+link_is_open None = false
+link_is_open (Some link) = open_link link
+
+abbrev pub is_open : ℕ → State → Bool
+is_open number s = link_is_open (slice_get s.links number)
+
+-- whether streams can run on a link: it is open, or was left and isn't settled
+abbrev pub carries_in : Bool → Phase → Bool
+carries_in tested Up = tested
+carries_in tested Down = true
+carries_in tested Settled = false
+
+abbrev pub carries : LinkState → Bool
+carries link = carries_in link.tested link.phase
+
 abbrev pub is_settled : ℕ → State → Bool
 is_settled number s = link_is_settled (slice_get s.links number)
 
@@ -145,16 +172,16 @@ late_in (Some link) = link.late
 abbrev pub late_at : ℕ → State → ℕ
 late_at number s = late_in (slice_get s.links number)
 
--- where a new message goes whose stream runs there: on a link that was left it's held, on its way back it waits for the
--- acknowledgement, nowhere it's parked
+-- where a new message goes whose stream runs there: for a link that is open it waits, on one that was left it's held, on
+-- its way back it waits for the acknowledgement, nowhere it's parked
 abbrev pub fate_at : Place → State → Fate
-fate_at (On link) s = if is_up link s then Waiting link else Held link
+fate_at (On link) s = if is_open link s then Waiting link else Held link
 fate_at (Changing to code via) s = Back code
 fate_at Nowhere s = Parked
 
--- TARGET: the lowest-numbered link that is up (own)
+-- TARGET: the lowest-numbered link that is open (own)
 abbrev pub target : List LinkState → Option ℕ
-target links = target_of (map (λ link. has_phase_up link.phase) links)
+target links = target_of (map (λ link. open_link link) links)
 
 -- The window of a link, as its rows give it: the message at place i of the unacknowledged ones has FSN acked + i
 -- modulo 128 (Q.703 2.2; wide: 4,096), so the FSN before it, last acknowledged, is acked - 1.

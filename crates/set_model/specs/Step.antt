@@ -18,7 +18,7 @@ pub use Rattle.set_events.specs.declared.event.Event.{Event}
 pub use Rattle.set_events.specs.declared.event.Event.TheVariants.{Offer, Take, Find, Next, Heard, Up as UpEvent, Down as DownEvent, DownBlind, NoAnswer, Timed, Restore, Redeclare, BackTimeout, Test}
 use Rattle.set_route.specs.Routing.{place_of, code_for, accepted, raised}
 use Rattle.set_model.specs.Rows.{Fate, Waiting, Parked, Unacked, Acked, Row, all_with, unack, wait, is_unacked, is_waiting, is_parked, octets_in, unsent, stream_of, service_indicator, turned, moved, appended, place, counts_of, total_of}
-use Rattle.set_model.specs.State.{Phase, Up, Down, Settled, LinkState, State, given, with_link, link_count, late_at, has_phase_up, fate_at, window_of}
+use Rattle.set_model.specs.State.{Phase, Up, Down, Settled, LinkState, State, given, open_link, with_link, link_count, late_at, has_phase_up, fate_at, window_of}
 use Rattle.set_model.specs.Control.{Header, Method, HeardPart, Choice, again, first, fill, start_of, choice_of, fsn_of, head_of, control_after, part_of, control_heard}
 use Rattle.set_model.specs.Changeover.{Unanswered, Unasked, taken_back, Obeyed, cleared, left_by, leaving_order, queued, settled, declared_from, some_declare, redeclared_from, some_overdue, released_from, some_in_use, obeyed}
 
@@ -174,21 +174,42 @@ abbrev pub heard : SignalUnit → ℕ → State → LinkState → Outcome
 heard unit number s link =
     if is_heard s.settings.profile unit then controls unit number s link else refused s Nothing
 
--- UP. The error control starts anew; streams move to the link, and what was parked waits for it.
+-- UP. The error control starts anew;
 abbrev pub risen_link : Profile → Method → ℕ → LinkState
-risen_link profile method late =
-    record { phase = Up; profile = profile; blind = false; answered = false; acked = 0; accepted = 0; control = start_of method; late = late; order = 0 }
+risen_link profile method late = record {
+  phase = Up;
+  tested = false;
+  profile = profile;
+  blind = false;
+  answered = false;
+  acked = 0;
+  accepted = 0;
+  control = start_of method;
+  late = late;
+  order = 0;
+}
 
+abbrev pub risen : ℕ → State → State
+risen number s = with_link number (risen_link s.settings.profile s.settings.method (late_at number s)) s
+
+-- OPEN. Streams move to the link, and what was parked waits for it.
+abbrev pub opened_link : LinkState → LinkState
+opened_link link = record link { tested = true }
+
+abbrev pub opened : ℕ → LinkState → State → State
+opened number link s = record s {
+  links = slice_set s.links number (opened_link link);
+  rows = moved is_parked (all_with (Waiting number)) s.rows;
+  routing = raised number s.routing;
+}
+
+-- a link that comes up is open at once
 abbrev pub rises : ℕ → State → Phase → Outcome
 rises number s Up = refused s NotDown
 rises number s Down = refused s Unsettled
 rises number s Settled = record {
   answer = Done;
-  state = record s {
-    links = slice_set s.links number (risen_link s.settings.profile s.settings.method (late_at number s));
-    rows = moved is_parked (all_with (Waiting number)) s.rows;
-    routing = raised number s.routing;
-  };
+  state = opened number (risen_link s.settings.profile s.settings.method (late_at number s)) (risen number s);
 }
 
 -- DOWN. The link is left, and an order tells the far end (Q.704 5.3, 5.4.1); blind, it's an emergency (Q.704 5.6.1).
@@ -219,12 +240,16 @@ abbrev pub times_out : ℕ → State → LinkState → Phase → Outcome
 times_out number s link Down = timed (place link.order s.rows) number s link
 times_out number s link _ = refused s Nothing
 
--- RESTORE (Q.704 6.2): streams come back from every other link that is up, the lowest-numbered first.
+-- RESTORE (Q.704 6.2): streams come back from every other link that is open, the lowest-numbered first.
 abbrev pub comes_back : ℕ → State → Outcome
 comes_back number s =
     if some_declare number 0 (link_count s) s
     then record { answer = Done; state = declared_from number 0 (link_count s) s }
     else refused s Nothing
+
+-- to one that is open
+abbrev pub restores : ℕ → State → LinkState → Outcome
+restores number s link = if open_link link then comes_back number s else refused s NotUp
 
 -- NO ACKNOWLEDGEMENT of a changeback came in time (Q.704 6.3): each overdue declaration of this home is made once more, the
 -- lowest code first.
@@ -254,7 +279,7 @@ stepped s (DownEvent link) = in_service link s (falls false link s)
 stepped s (DownBlind link) = in_service link s (falls true link s)
 stepped s (NoAnswer link) = on_link link s (λ state. gives_up link s state state.phase)
 stepped s (Timed link) = on_link link s (λ state. times_out link s state state.phase)
-stepped s (Restore link) = in_service link s (λ state. comes_back link s)
+stepped s (Restore link) = in_service link s (restores link s)
 stepped s (Redeclare link) = on_link link s (λ state. redeclares link s)
 stepped s (BackTimeout link) = on_link link s (λ state. runs_out link s)
 stepped s (Test link) = in_service link s (λ state. refused s Nothing)

@@ -19,7 +19,7 @@ use Rattle.set_model.specs.Changeover.{Obeyed, acknowledged_back, acknowledged_c
 use Rattle.set_model.specs.Control.{Choice, again, first, fill, fsn_of, head_of}
 use Rattle.set_model.specs.Rows.{AreFit, Parked, same_fate, Acked, Discarded, Emergency, NoAnswer, Unacked, Unreasonable, Waiting, is_back, is_back_to, is_on, is_parked, is_unacked, is_waiting, place, service_indicator}
 use Rattle.set_model.specs.State.{Asked, Code, Free, Spent, On, fate_at, has_phase_up, link_count, target, window_of}
-use Rattle.set_model.specs.Step.{Done, Message, Nothing, NotUp, Outcome, SetRefusal, brought, choice_in, chosen, comes_back, controlled, controls, falls, found as found_at, gives_up, over_by_time, timed, times_out, heard, in_service, is_heard, next, offer_refusal, offered, on_link, part_in, redeclares, refused, rises, rows_sent, runs_out, step, taken, takes, unit_of, with_known}
+use Rattle.set_model.specs.Step.{Done, Message, Nothing, NotUp, Outcome, SetRefusal, brought, choice_in, chosen, comes_back, controlled, controls, falls, found as found_at, gives_up, over_by_time, timed, times_out, heard, in_service, restores, is_heard, next, offer_refusal, offered, on_link, part_in, redeclares, refused, rises, rows_sent, runs_out, step, taken, takes, unit_of, with_known}
 use Rattle.set_model.proofs.Ahead.{each_put}
 use Rattle.set_model.proofs.Lists.{each_set, within}
 use Rattle.l2_units.specs.declared.profile.Profile.{Profile}
@@ -34,7 +34,7 @@ use Rattle.set_events.specs.declared.answer.Answer.{Answer}
 use Rattle.set_events.specs.declared.event.Event.{Event}
 use Rattle.set_model.specs.Rows.{Fate, Row, appended, changed, fated, moved, picked_changed, is_users, standing, turned, unack, wait}
 use Rattle.set_model.specs.Sound.{IsSettings, IsSound}
-use Rattle.set_model.specs.State.{LinkState, State, given, last_accepted}
+use Rattle.set_model.specs.State.{LinkState, open_link, State, given, last_accepted}
 use Rattle.set_model.proofs.Rows.{each_append, each_filter, turned_there, where_turned, where_picked}
 use Rattle.set_octets.specs.Octets.{AreOctets, IsBody, AreBodies, HoldsOctets, AskedInOctets, IsOnWire, GivesOctets, StepsGiveOctets}
 
@@ -399,7 +399,8 @@ module _ (s : State) (sound : IsSound s) (settings : IsSettings s.settings) (h :
   step_holds (Event.DownBlind n) asked = in_holds n s (falls true n s) h (λ link there. falls_holds true n s link (narrow n link there) h)
   step_holds (Event.NoAnswer n) asked = on_holds n s (λ link. gives_up n s link link.phase) h (λ link there. gives_up_holds n s link link.phase h)
   step_holds (Event.Timed n) asked = on_holds n s (λ link. times_out n s link link.phase) h (λ link there. times_out_holds n s link link.phase h)
-  step_holds (Event.Restore n) asked = in_holds n s (λ link. comes_back n s) h (λ link there. restores_hold n s (omega (arith, within s.links n link there, few)) few h)
+  step_holds (Event.Restore n) asked = in_holds n s (restores n s) h (λ link there. cond_both (open_link link) (comes_back n s) (refused s NotUp) (λ (o : Outcome). HoldsOctets o.state)
+      (λ e. restores_hold n s (omega (arith, within s.links n link there, few)) few h) (λ e. h))
   step_holds (Event.Redeclare n) asked = on_holds n s (λ link. redeclares n s) h (λ link there. redeclares_hold n s (omega (arith, within s.links n link there, few)) h)
   step_holds (Event.BackTimeout n) asked = on_holds n s (λ link. runs_out n s) h (λ link there. runs_out_holds n s h)
   step_holds (Event.Test n) asked = in_holds n s (λ link. refused s Nothing) h (λ link there. h)

@@ -14,7 +14,7 @@ use Rattle.set_model.specs.declared.reached.Reached.TheVariants.{Upto, Unknown, 
 use Rattle.set_model.specs.State.{LinkState, State, given, late_at, late_in}
 use Rattle.set_model.specs.Changeover.{acknowledged, acknowledged_by, answered, answered_link, changed_over, cleared, declared, declared_from, declared_if, can_declare, discarded, is_reasonable, left_link, moved_over, obeyed, one_later, order_obeyed, reached_by, released, released_from, settled, taken_back}
 use Rattle.set_model.specs.Rows.{Fate, Waiting, Parked, Unreasonable, place}
-use Rattle.set_model.specs.Step.{Outcome, timed, times_out, brought, controlled, controls, falls, heard, in_service, is_heard, next, Nothing, part_in, refused, step, takes}
+use Rattle.set_model.specs.Step.{Outcome, opened_link, risen, risen_link, rises, timed, times_out, brought, controlled, controls, falls, heard, in_service, is_heard, next, Nothing, part_in, refused, step, takes}
 use Rattle.set_model.proofs.Lists.{get_set_same, within}
 use Rattle.set_model.proofs.Walk.{redeclares_links}
 use Rattle.set_octets.specs.Lives.{IsLateOnce, LateOrdersAreCounted}
@@ -147,6 +147,16 @@ module _ (n : ℕ) where
   times_count k Up link s there = inl refl
   times_count k Settled link s there = inl refl
 
+  -- a link that comes up opens
+  rises_count : (k : ℕ) (phase : Phase) (link : LinkState) (s : State) → slice_get s.links k ≡ Some link
+      → Counts s (rises k s phase).state
+  rises_count k Up link s there = inl refl
+  rises_count k Down link s there = inl refl
+  rises_count k Settled link s there =
+      let new = risen_link s.settings.profile s.settings.method (late_at k s) in
+      inl (set_late (risen k s).links k new (opened_link new) (get_set_same s.links k new (within s.links k link there)) refl n
+      ∙ set_late s.links k link new there (ap late_in there) n)
+
   late_counts : (s : State) (event : Event) → Counts s (step s event).state
   unfolding step
   late_counts s (Heard k unit) = in_counts k s (heard unit k s) (heard_counts unit k s)
@@ -155,7 +165,7 @@ module _ (n : ℕ) where
       grind (arith, settle)
   late_counts s (Timed k) = grind (arith, times_count)
   late_counts s (Redeclare k) = inl (ap (λ (ls : List LinkState). late_in (slice_get ls n)) (redeclares_links k s))
-  late_counts s (UpEvent k) = grind (arith, set_late)
+  late_counts s (UpEvent k) = grind (arith, rises_count)
   late_counts s (Next k) = in_counts k s (next k (cleared k s)) (λ link there. same_counts k s link _ there refl)
   late_counts s (DownEvent k) = in_counts k s (falls false k s) (λ link there. same_counts k s link _ there refl)
   late_counts s (DownBlind k) = in_counts k s (falls true k s) (λ link there. same_counts k s link _ there refl)

@@ -7,9 +7,9 @@ use Rattle.set_events.specs.declared.event.Event.{Event}
 use Rattle.set_model.specs.declared.phase.Phase.{Phase}
 use Rattle.set_model.specs.declared.phase.Phase.TheVariants.{Up, Down, Settled}
 use Rattle.set_model.specs.State.{LinkState, State, given, has_phase_settled, has_phase_up, is_settled, is_up, late_at, link_is_settled, link_is_up}
-use Rattle.set_model.specs.Step.{NotUp, Nothing, Outcome, Refused, SignalUnit, controls, falls, heard, in_service, is_heard, next, on_link, refused, risen_link, rises, step, with_known}
+use Rattle.set_model.specs.Step.{NotUp, Nothing, Outcome, opened_link, Refused, SignalUnit, controls, falls, heard, in_service, is_heard, next, on_link, refused, risen_link, rises, step, with_known}
 use Rattle.set_model.specs.Changeover.{cleared, left_link}
-use Rattle.set_model.proofs.Lists.{get_set_other, get_set_same, present, within}
+use Rattle.set_model.proofs.Lists.{get_set_other, get_set_same, length_set, present, within}
 use Rattle.set_model.proofs.Places.{false_true}
 use Rattle.set_model.proofs.Walk.{KeptBy, WalkedBy, step_walks}
 use Rattle.set_octets.specs.Lives.{DownEnds, GoesOn, IsNoUp, IsRefused, OnlyUpBegins, OthersAreRefused, UpBegins, UpIsServed}
@@ -67,6 +67,7 @@ module _ (n : ℕ) where
     redeclares = λ code via s due. goes_links s _ refl;
     acknowledges_back = λ code s known. goes_links s _ refl;
     releases = λ code s known. goes_links s _ refl;
+    opens = λ m link s known at shut unparked. goes_set m link _ s _ at.there refl (λ is. is) (λ is. is);
   }
 
   goes_walked : (s : State) (event : Event) → IsNoUp n event → WalkedBy s event (GoesOn n) (GoesOn n s)
@@ -78,7 +79,7 @@ module _ (n : ℕ) where
     takes = λ body rest e there. goes_links s _ refl;
     sends = λ m link t e r at changes. goes_then s t _ r (goes_set m link _ t _ at.there refl (λ is. is) (λ is. is));
     hears = λ m unit link e heard at changes. goes_set m link _ s _ at.there refl (λ is. is) (λ is. is);
-    rises = λ m link e at unparked. elsewhere m _ s _ refl (subst (IsNoUp n) e other);
+    rises = λ m link e at. elsewhere m _ s _ refl (subst (IsNoUp n) e other);
   }
     where
       elsewhere : (m : ℕ) (link' : LinkState) (s t : State) → t.links ≡ slice_set s.links m link' → (m == n) ≡ false → GoesOn n s t
@@ -118,7 +119,8 @@ up_begins n s settled =
     ap (λ (found : Option LinkState). with_known found s (λ link. rises n s link.phase)) at.there ∙ ap (rises n s) at.phase_is in
     record {
       answer = ap (λ (o : Outcome). o.answer) whole;
-      up = ap (λ (o : Outcome). is_up n o.state) whole ∙ ap link_is_up (get_set_same s.links n risen few);
+      up = ap (λ (o : Outcome). is_up n o.state) whole
+          ∙ ap link_is_up (get_set_same (slice_set s.links n risen) n (opened_link risen) (omega (arith, few, length_set s.links n risen)));
     }
 
 -- what needs a link in service is refused where it's there and isn't up, and is done where it's up

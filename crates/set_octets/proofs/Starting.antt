@@ -18,10 +18,10 @@ use Rattle.set_events.specs.declared.event.Event.{Event}
 use Rattle.set_model.specs.declared.phase.Phase.TheVariants.{Up, Settled}
 use Rattle.set_model.specs.Changeover.{fate_on, out_of_service}
 use Rattle.set_model.specs.Control.{Choice, Control, Basic, Cyclic, again, first, fill, control_after, control_heard, part_of, start_of}
-use Rattle.set_model.specs.Rows.{Fate, Row, Discarded, NoAnswer, Unacked, Waiting, is_back, is_back_to, is_on, is_unacked, is_waiting, moved, numbers, octets_in, stream_of, unack}
+use Rattle.set_model.specs.Rows.{Fate, Row, Discarded, NoAnswer, Unacked, Waiting, is_back, is_back_to, is_on, is_parked, is_unacked, is_waiting, moved, numbers, octets_in, stream_of, unack}
 use Rattle.set_model.specs.Sound.{IsInRange, IsSound}
 use Rattle.set_model.specs.State.{LinkState, State, fate_at, given, has_phase_up, late_at, link_is_up, target, window_of, On}
-use Rattle.set_model.specs.Step.{HeardBack, NotUp, Outcome, choice_in, controlled, controls, has_numbers, heard, is_msu, next, offered, one_if, part_in, refused, risen_link, rises, rows_sent, step, with_known}
+use Rattle.set_model.specs.Step.{HeardBack, NotUp, Outcome, choice_in, controlled, controls, has_numbers, heard, is_msu, next, offered, one_if, part_in, refused, opened, opened_link, risen, risen_link, rows_sent, step, with_known}
 use Rattle.set_route.specs.Routing.{place_of}
 use Rattle.set_model.proofs.Ahead.{put_apart}
 use Rattle.set_model.proofs.Events.{appended_out}
@@ -32,19 +32,30 @@ use Rattle.set_model.proofs.Staying.{not_sent, offered_out}
 use Rattle.set_model.proofs.Walk.{IsAt, KeptBy, WalkedBy, step_walks}
 use Rattle.set_octets.specs.Starting.{IsFirstHead, nothing_new, HasHeardNone, IsUnheard, HearsNoneYet, IsNotHeardOn, FirstFisusChangeNothing, NoneIsHeardTillThen}
 
--- WHAT STAYS: a link that is up afterwards was so before, with the same unacknowledged messages.
+-- WHAT STAYS: a link that is up afterwards was so before, with the same unacknowledged messages, and with the same control.
+record Was (n : ℕ) (link : LinkState) (s t : State) : Type 0 where
+  pub old : LinkState
+  pub there : slice_get s.links n ≡ Some old
+  pub up : has_phase_up old.phase ≡ true
+  pub acked : link.acked ≡ old.acked
+  pub control : link.control ≡ old.control
+  pub rows : unack n t.rows ≡ unack n s.rows
+
 record Stays (n : ℕ) (s t : State) : Type 0 where
-  pub each : (link : LinkState) → slice_get t.links n ≡ Some link → has_phase_up link.phase ≡ true
-      → (slice_get s.links n ≡ Some link) × (unack n t.rows ≡ unack n s.rows)
+  pub each : (link : LinkState) → slice_get t.links n ≡ Some link → has_phase_up link.phase ≡ true → Was n link s t
 
 module _ (n : ℕ) where
   stays_then : (a b c : State) → Stays n a b → Stays n b c → Stays n a c
   stays_then a b c p q = record {
-    each = λ link there up. let y = q.each link there up in let x = p.each link y.0 up in (x.0, y.1 ∙ x.1);
+    each = λ link there up. let y = q.each link there up in let x = p.each y.old y.there y.up in
+        record { old = x.old; there = x.there; up = x.up; acked = y.acked ∙ x.acked; control = y.control ∙ x.control; rows = y.rows ∙ x.rows };
   }
 
+  same_was : (s t : State) (link : LinkState) → slice_get s.links n ≡ Some link → has_phase_up link.phase ≡ true → unack n t.rows ≡ unack n s.rows → Was n link s t
+  same_was s t link there up rows = record { old = link; there = there; up = up; acked = refl; control = refl; rows = rows }
+
   stays_links : (s t : State) → t.links ≡ s.links → unack n t.rows ≡ unack n s.rows → Stays n s t
-  stays_links s t links rows = record { each = λ link there up. (ap (λ (ls : List LinkState). slice_get ls n) (sym links) ∙ there, rows) }
+  stays_links s t links rows = record { each = λ link there up. same_was s t link (ap (λ (ls : List LinkState). slice_get ls n) (sym links) ∙ there) up rows }
 
   -- another link than one that is up
   off : (m : ℕ) (link other : LinkState) (s : State) → slice_get s.links m ≡ Some link → has_phase_up link.phase ≡ false
@@ -61,9 +72,9 @@ module _ (n : ℕ) where
   }
     where
       go : (link : LinkState) → has_phase_up link.phase ≡ true → ((n ≡ m) × (link ≡ link')) ⊎ ((n ≢ m) × (slice_get s.links n ≡ Some link))
-          → (slice_get s.links n ≡ Some link) × (unack n t.rows ≡ unack n s.rows)
+          → Was n link s t
       go link up (inl same) = let no : true ≡ false = sym up ∙ ap (λ (l : LinkState). has_phase_up l.phase) same.1 ∙ down in absurd cc
-      go link up (inr other) = (other.1, rows (apart m n (λ (e : m ≡ n). other.0 (sym e))))
+      go link up (inr other) = same_was s t link other.1 up (rows (apart m n (λ (e : m ≡ n). other.0 (sym e))))
 
   -- what changes on a link that isn't up
   stays_off : (m : ℕ) (link : LinkState) (s t : State) → slice_get s.links m ≡ Some link → has_phase_up link.phase ≡ false → t.links ≡ s.links
@@ -71,7 +82,7 @@ module _ (n : ℕ) where
   stays_off m link s t at down links rows = record {
     each = λ other there up.
         let is : slice_get s.links n ≡ Some other = ap (λ (ls : List LinkState). slice_get ls n) (sym links) ∙ there in
-        (is, rows (off m link other s at down is up));
+        same_was s t other is up (rows (off m link other s at down is up));
   }
 
   -- rows that move to wait, to be held or to be parked
@@ -79,9 +90,28 @@ module _ (n : ℕ) where
       → ((f : Fate) → test f ≡ true → is_unacked n f ≡ false) → unack n (moved test fate rows) ≡ unack n rows
   unsent_moved test fate rows comes goes = moved_same test (is_unacked n) fate rows comes goes
 
+  -- one that opens is as it was
+  stays_opened : (m : ℕ) (link : LinkState) (s : State) → IsAt m link Up s → Stays n s (opened m link s)
+  stays_opened m link s at = record { each = λ other there up. go other up (at_set s.links m n (opened_link link) other there) }
+    where
+      rows : unack n (opened m link s).rows ≡ unack n s.rows
+      rows = unsent_moved is_parked _ s.rows (λ x. refl) (λ f e. grind arith)
+
+      go : (other : LinkState) → has_phase_up other.phase ≡ true → ((n ≡ m) × (other ≡ opened_link link)) ⊎ ((n ≢ m) × (slice_get s.links n ≡ Some other))
+          → Was n other s (opened m link s)
+      go other up (inl same) = record {
+        old = link;
+        there = ap (slice_get s.links) same.0 ∙ at.there;
+        up = ap has_phase_up at.phase_is;
+        acked = ap (λ (l : LinkState). l.acked) same.1;
+        control = ap (λ (l : LinkState). l.control) same.1;
+        rows = rows;
+      }
+      go other up (inr apart_is) = same_was s (opened m link s) other apart_is.1 up rows
+
   small : (Known : ℕ → Type 0) (May : Type 0) → KeptBy Known May (Stays n)
   small Known May = record {
-    same = λ s. record { each = λ link there up. (there, refl) };
+    same = λ s. record { each = λ link there up. same_was s s link there up refl };
     after = stays_then;
     delivers = λ body s. stays_links s _ refl refl;
     queues = λ order s. stays_links s _ refl (put_apart (given s) s.rows _ (fate_on (target s.links)) (is_unacked n) (not_sent n (target s.links)));
@@ -101,12 +131,18 @@ module _ (n : ℕ) where
     redeclares = λ code via s due. stays_links s _ refl (appended_out (given s) s.rows _ (fate_at (On via) s) (is_unacked n) (offered_out n (On via) s));
     acknowledges_back = λ code s known. stays_links s _ refl (unsent_moved (is_back code) _ s.rows (λ x. refl) (λ f e. grind arith));
     releases = λ code s known. stays_links s _ refl (unsent_moved (is_back code) _ s.rows (λ x. refl) (λ f e. grind arith));
+    opens = λ m link s known at shut unparked. stays_opened m link s at;
   }
 
   rests : (s t : State) → HearsNoneYet n s → Stays n s t → HearsNoneYet n t
   rests s t h stays link there up =
       let x = stays.each link there up in
-      subst (λ (rows : List Row). IsUnheard link (length rows)) (sym x.1) (h link x.0 up)
+      let u = h x.old x.there x.up in
+      record {
+        acked = x.acked ∙ u.acked;
+        control = subst (λ (c : Control). HasHeardNone c (length (unack n t.rows))) (sym x.control)
+            (subst (λ (rows : List Row). HasHeardNone x.old.control (length rows)) (sym x.rows) u.control);
+      }
 
 numbered : (rows : List Row) → length (numbers rows) ≡ length rows
 numbered rows = grind (arith, length-map)
@@ -179,8 +215,8 @@ module _ (n : ℕ) (s : State) (h : HearsNoneYet n s) where
         let d : (m == n) ≡ false = subst (IsNotHeardOn n) e elsewhere in
         on_one m (heard_link m unit link) s (controlled unit m s link) h refl (λ d. (changes.others n d).unack_same)
         (λ (is : n ≡ m) up. false_true (m == m) (subst (λ (k : ℕ). (m == k) ≡ false) is d) (itself m));
-    rises = λ m link e at unparked. on_one m (risen_link s.settings.profile s.settings.method (late_at m s)) s (rises m s Settled).state h refl (λ d. (unparked.others n d).unack_same)
-        (λ (is : n ≡ m) up. record { acked = refl; control = risen (start_of s.settings.method) (length (unack n (rises m s Settled).state.rows)) (unheard_first s.settings.method) });
+    rises = λ m link e at. on_one m (risen_link s.settings.profile s.settings.method (late_at m s)) s (risen m s) h refl (λ d. refl)
+        (λ (is : n ≡ m) up. record { acked = refl; control = started (start_of s.settings.method) (length (unack n s.rows)) (unheard_first s.settings.method) });
   }
     where
       sent : (m : ℕ) (link : LinkState) (t : State) → HearsNoneYet n t → IsAt m link Up t → n ≡ m
@@ -196,9 +232,9 @@ module _ (n : ℕ) (s : State) (h : HearsNoneYet n s) where
                 (more_sent (choice_in m link t) m t.rows)) was.control;
           }
 
-      risen : (control : Control) (more : ℕ) → HasHeardNone control 0 → HasHeardNone control more
-      risen (Basic state) more h = h
-      risen (Cyclic state) more h = (h.0, λ e. let no = h.1 e in omega (arith, no))
+      started : (control : Control) (more : ℕ) → HasHeardNone control 0 → HasHeardNone control more
+      started (Basic state) more h = h
+      started (Cyclic state) more h = (h.0, λ e. let no = h.1 e in omega (arith, no))
 
 pub none_heard : NoneIsHeardTillThen
 none_heard n s event elsewhere h = step_walks s (Stays n) (HearsNoneYet n) event (walked n s h event elsewhere)

@@ -4,11 +4,11 @@ use Rattle.std.specs.Prelude.{if◌then◌else◌}
 use Rattle.set_events.specs.declared.event.Actor.{Actor}
 use Rattle.set_model.specs.History.{LinkSet, IsStep}
 use Rattle.set_model.specs.Rows.{Fate, place}
-use Rattle.set_model.specs.State.{LinkState, State, has_phase_up, link_count}
+use Rattle.set_model.specs.State.{open_link, LinkState, State, has_phase_up, link_count}
 use Rattle.set_model.specs.Changeover.{declared_from, redeclared_from, released_from, some_declare, some_in_use, some_overdue}
 use Rattle.set_model.specs.declared.phase.Phase.{Phase}
 use Rattle.set_model.specs.declared.phase.Phase.TheVariants.{Down, Settled, Up}
-use Rattle.set_model.specs.Step.{Answer, BackTimeout, Done, DownBlind, DownEvent, Event, Find, Heard, Next, NoAnswer, Timed, NoSuchLink, NotUp, Nothing, Offer, Outcome, Reserved, Redeclare, Restore, SetRefusal, StreamFull, Take, Test, TooLong, TooShort, UpEvent, controls, found, gives_up, timed, times_out, in_service, is_heard, offered, on_link, refused, rises, step, taken, with_known}
+use Rattle.set_model.specs.Step.{comes_back, Answer, BackTimeout, Done, DownBlind, DownEvent, Event, Find, Heard, Next, NoAnswer, Timed, NoSuchLink, NotUp, Nothing, Offer, Outcome, Reserved, Redeclare, Restore, SetRefusal, StreamFull, Take, Test, TooLong, TooShort, UpEvent, controls, found, gives_up, timed, times_out, in_service, is_heard, offered, on_link, refused, rises, step, taken, with_known}
 use Rattle.set_shared.specs.Asking.{MayAnswer, may_answer, may_refuse}
 
 either : (event : Event) (test : Bool) (first second : Outcome) → may_answer event first.answer ≡ true → may_answer event second.answer ≡ true → may_answer event (if test then first else second).answer ≡ true
@@ -76,7 +76,7 @@ answers s (DownEvent link) = of_link_up (DownEvent link) link s _ refl refl (λ 
 answers s (DownBlind link) = of_link_up (DownBlind link) link s _ refl refl (λ state. refl)
 answers s (NoAnswer link) = of_link (NoAnswer link) link s _ refl (λ state. of_no_answer link s state state.phase)
 answers s (Timed link) = of_link (Timed link) link s _ refl (λ state. of_timed link s state state.phase)
-answers s (Restore link) = of_link_up (Restore link) link s _ refl refl (λ state. either (Restore link) (some_declare link 0 (link_count s) s) (record { answer = Done; state = declared_from link 0 (link_count s) s }) (refused s Nothing) refl refl)
+answers s (Restore link) = of_link_up (Restore link) link s _ refl refl (λ state. either (Restore link) (open_link state) (comes_back link s) (refused s NotUp) (either (Restore link) (some_declare link 0 (link_count s) s) (record { answer = Done; state = declared_from link 0 (link_count s) s }) (refused s Nothing) refl refl) refl)
 answers s (Redeclare link) = of_link (Redeclare link) link s _ refl (λ state. either (Redeclare link) (some_overdue (16 * link + 0) 16 s) (record { answer = Done; state = redeclared_from (16 * link + 0) 16 s }) (refused s Nothing) refl refl)
 answers s (BackTimeout link) = of_link (BackTimeout link) link s _ refl (λ state. either (BackTimeout link) (some_in_use (16 * link + 0) 16 s) (record { answer = Done; state = released_from (16 * link + 0) 16 s }) (refused s Nothing) refl refl)
 answers s (Test link) = of_link_up (Test link) link s _ refl refl (λ state. refl)

@@ -190,7 +190,9 @@ fn bring_up<A: Allocator + Copy>(
                 .queues
                 .divert(Fate::Parked, Fate::Waiting { link: number });
             let profile = parts.config.profile();
-            parts.links[usize::from(number)].rise(profile, parts.config.method);
+            let link = &mut parts.links[usize::from(number)];
+            link.rise(profile, parts.config.method);
+            link.pass_test();
             parts.routes.raise(number);
             reply.set_done();
         }

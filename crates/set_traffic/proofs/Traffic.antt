@@ -21,13 +21,13 @@ use Rattle.l2_units.specs.declared.lent.UnitRef.TheVariants.{Fisu as LentFisu, L
 use Rattle.set_model.specs.Rows.{Waiting, Unacked, Row, Fate, is_unacked, unack, numbers, octets_in, body_at, AreFit, Held, service_indicator}
 use Rattle.l3_orders.specs.Grammar.{order_of}
 use Rattle.set_model.specs.Control.{Header, Control, head_of, part_of}
-use Rattle.set_model.specs.State.{LinkState, State, window_of, target}
+use Rattle.set_model.specs.State.{open_link, LinkState, State, window_of, target}
 use Rattle.set_model.specs.Step.{choice_in, SignalUnit, Msu, Sent, next as next_of, sends, chosen, unit_of, in_service, Took, Ignored, is_heard, Message as MessageTaken, NothingTaken, takes, brought as accepted_body}
 use Rattle.set_changeover.specs.declared.link.Link.{Link}
 use Rattle.set_changeover.specs.declared.parts.Parts.{Parts}
 use Rattle.set_changeover.specs.Agreement.{Holds, StandsFor, Message as KeptMessage, Kept, is_there, rows_at}
 use Rattle.set_changeover.specs.Parts.{Up, kept_of, Gives, Obeys}
-use Rattle.set_changeover.proofs.Links.{IsHere, served, stands_for, same_ups, same_target, profile_of, whole_of}
+use Rattle.set_changeover.proofs.Links.{IsHere, served, stands_for, same_target, profile_of, whole_of}
 use Rattle.set_traffic.specs.Traffic.{ReachesTo, KeepsSpace, Brought, Nothing, Message, OrderBrought, Unread, brought_by, HasSpaceFor}
 use Rattle.set_queues.specs.Messages.{octets_at, octets_of, slot_at}
 use Rattle.set_model.proofs.Rows.{Found, found_by_number, row_in_filter}
@@ -136,10 +136,10 @@ module _ {A : Type 0} (parts : Parts A) (s : State) (unit : SignalUnit) where
 -- ROOM is kept.
 module _ {A : Type 0} (old new : Parts A) (k : KeepsSpace old new) where
   as_many : length new.links.items ≡ length old.links.items
-  as_many = sym (length-map new.links.items (λ (l : Link). l.phase)) ∙ ap length k.phases ∙ length-map old.links.items (λ (l : Link). l.phase)
+  as_many = sym (length-map new.links.items (λ (l : Link). open_link l)) ∙ ap length k.opens ∙ length-map old.links.items (λ (l : Link). open_link l)
 
   same_beside : (n : ℕ) → target_beside n new.links.items ≡ target_beside n old.links.items
-  same_beside n = ap (λ ups. target_of (slice_set ups n false)) (same_ups old.links.items new.links.items k.phases)
+  same_beside n = ap (λ flags. target_of (slice_set flags n false)) k.opens
 
   -- as much stands back
   same_from : (code n : ℕ) → back_from code n new.queues.lists ≡ back_from code n old.queues.lists
@@ -160,7 +160,7 @@ module _ {A : Type 0} (old new : Parts A) (k : KeepsSpace old new) where
   spacious_still (Coa link number) r = ready_still link r
   spacious_still (Eco link) r = ready_still link r
   spacious_still (Eca link) r = ready_still link r
-  spacious_still (Cbd link code) r = grind (arith, same_target old.links.items new.links.items k.phases, k.queues.message, k.bodies, k.queues.rooms (fate_on (target old.links.items)), r.message, r.body, r.place)
+  spacious_still (Cbd link code) r = grind (arith, same_target old.links.items new.links.items k.opens, k.queues.message, k.bodies, k.queues.rooms (fate_on (target old.links.items)), r.message, r.body, r.place)
   spacious_still (Cba link code) r = λ low. grind (arith, r, as_many, k.queues.rooms (Waiting (home_of code)), k.queues.backs code)
 
   -- and the orders are of the same grammar

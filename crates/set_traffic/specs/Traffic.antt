@@ -5,7 +5,7 @@ use Rattle.l2_window.specs.declared.control.Choice.TheVariants.{Again, First, Fi
 use Rattle.set_queues.specs.Buffers.{Lists, profile_at, queue_at, KeepsRoom}
 use Rattle.set_model.specs.Control.{control_after}
 use Rattle.set_model.specs.Rows.{Waiting, Unacked, Row, octets_in, unack, Acked, Back, is_unacked, service_indicator, turned}
-use Rattle.set_model.specs.State.{LinkState, State, window_of, with_link}
+use Rattle.set_model.specs.State.{open_link, LinkState, State, window_of, with_link}
 use Rattle.l2_window.specs.Window.{most_unacked}
 use Rattle.l2_units.specs.declared.profile.Profile.{Profile}
 use Rattle.std.specs.VecDeque.{deque_len, deque_capacity}
@@ -77,10 +77,10 @@ pub record KeepsQueues (old new : QueuesState) : Type 0 where
   pub fewer : (number : ℕ) → length (on number new.lists) ≤ length (on number old.lists)
   pub backs : (code : ℕ) → queue_at (Back code) new.lists ≡ queue_at (Back code) old.lists
 
--- nor is room taken beside them, and no link changes its phase
+-- nor is room taken beside them, and the same links are open
 pub record KeepsSpace {A : Type 0} (old new : Parts A) : Type 0 where
   pub queues : KeepsQueues old.queues new.queues
   pub bodies : new.bodies ≡ old.bodies
-  pub phases : map (λ link. link.phase) new.links.items ≡ map (λ link. link.phase) old.links.items
+  pub opens : map (λ link. open_link link) new.links.items ≡ map (λ link. open_link link) old.links.items
   pub inbox : new.inbox ≡ old.inbox
   pub config : new.config ≡ old.config

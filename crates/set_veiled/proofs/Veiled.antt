@@ -27,10 +27,10 @@ use Rattle.set_model.specs.declared.reached.Reached.{Reached}
 use Rattle.set_model.specs.declared.reached.Reached.TheVariants.{Upto, Unknown, Unanswered, Unasked}
 use Rattle.set_model.specs.Control.{Choice, HeardPart}
 use Rattle.set_model.specs.Rows.{Fate, Waiting, Unacked, Acked, Held, Back, Parked, Discarded, Row, service_indicator, with_fate, fated, standing, moved, appended, put_ahead, all_with, is_on, is_back_to, place, stream_of, wait}
-use Rattle.set_model.specs.State.{late_in, LinkState, State, given, with_link, has_phase_up, has_phase_settled, link_is_up, link_is_settled, is_up, is_settled, fate_at, target, link_count}
+use Rattle.set_model.specs.State.{late_at, late_in, LinkState, State, given, with_link, has_phase_up, has_phase_settled, link_is_up, link_is_settled, is_open, is_up, link_is_open, open_link, is_settled, fate_at, target, link_count}
 use Rattle.set_model.specs.Changeover.{queued, out_of_service, turned_back, left_by, left_link, leaving_order, overtakes, is_overtaken, leading, withdrawn, cleared, reached_by, is_reasonable, discarded, acknowledged_by, judged, judged_link, taken_back, is_told, moved_over, settled_link, settled, declared, can_declare, declared_if, declared_from, some_declare, overdue_via, redeclared_on, redeclared_from, some_overdue, released, released_from, some_in_use, Obeyed, ignored, reply_of, answered_link, changed_over, answered, at_link, obeyed_at, acknowledged_back, order_obeyed, obeyed}
-use Rattle.set_model.specs.Step.{Outcome, refused, offer_refusal, offered, taken, found, with_known, on_link, in_service, next, heard, controls, part_in, brought, takes, controlled, is_heard, rises, risen_link, falls, gives_up, over_by_time, timed, times_out, comes_back, redeclares, runs_out, step}
-use Rattle.set_model.proofs.Lists.{get_set_same, get_set_other, within, length_set, map_set_same, present}
+use Rattle.set_model.specs.Step.{Outcome, refused, offer_refusal, offered, taken, found, with_known, on_link, in_service, next, heard, controls, part_in, brought, takes, controlled, is_heard, opened, opened_link, restores, rises, risen_link, falls, gives_up, over_by_time, timed, times_out, comes_back, redeclares, runs_out, step}
+use Rattle.set_model.proofs.Lists.{found_shut, not_open, get_set_same, get_set_other, within, length_set, map_set_same, present}
 use Rattle.set_model.proofs.Places.{false_true, itself}
 use Rattle.set_veiled.specs.Veil.{veil, IsOfOther, IsNoOrderOf, IsElsewhere, IsAlike, VeilsKeepSteps}
 
@@ -81,14 +81,27 @@ module _ (cover : LinkState) (not_up : has_phase_up cover.phase ≡ false) (l : 
       go true e = subst (λ (k : ℕ). is_up k (veil cover l s) ≡ is_up k s) (sym (eqb-true n l e)) (ap link_is_up (this_link s o) ∙ not_up ∙ sym o.out)
       go false e = ap link_is_up (other_link s n e)
 
+  cover_shut : open_link cover ≡ false
+  cover_shut = not_open cover.tested cover.phase not_up
+
+  is_shut : (s : State) → IsOut s → is_open l s ≡ false
+  is_shut s o = found_shut (slice_get s.links l) o.out
+
+  pub open_same : (s : State) → IsOut s → (n : ℕ) → is_open n (veil cover l s) ≡ is_open n s
+  open_same s o n = go (n == l) refl
+    where
+      go : (b : Bool) → (n == l) ≡ b → is_open n (veil cover l s) ≡ is_open n s
+      go true e = subst (λ (k : ℕ). is_open k (veil cover l s) ≡ is_open k s) (sym (eqb-true n l e)) (ap link_is_open (this_link s o) ∙ cover_shut ∙ sym (is_shut s o))
+      go false e = ap link_is_open (other_link s n e)
+
   pub target_same : (s : State) → IsOut s → target (veil cover l s).links ≡ target s.links
   target_same s o =
       let p = present s.links l o.few in
-      ap target_of (map_set_same (λ (k : LinkState). has_phase_up k.phase) s.links l p.0 cover p.1
-      (not_up ∙ sym (ap link_is_up (sym p.1) ∙ o.out)))
+      ap target_of (map_set_same (λ (k : LinkState). open_link k) s.links l p.0 cover p.1
+      (cover_shut ∙ sym (ap link_is_open (sym p.1) ∙ is_shut s o)))
 
   fate_same : (s : State) → IsOut s → (place : Place) → fate_at place (veil cover l s) ≡ fate_at place s
-  fate_same s o (On n) = ap (λ (b : Bool). cond b (Rattle.set_events.specs.declared.answer.Fate.TheVariants.Waiting n) (Rattle.set_events.specs.declared.answer.Fate.TheVariants.Held n)) (up_same s o n)
+  fate_same s o (On n) = ap (λ (b : Bool). cond b (Rattle.set_events.specs.declared.answer.Fate.TheVariants.Waiting n) (Rattle.set_events.specs.declared.answer.Fate.TheVariants.Held n)) (open_same s o n)
   fate_same s o (Changing to code via) = refl
   fate_same s o Nowhere = refl
 
@@ -359,7 +372,7 @@ module _ (cover : LinkState) (not_up : has_phase_up cover.phase ≡ false) (l : 
 
   -- RESTORE
   can_same : (home alternative : ℕ) (s : State) → IsOut s → can_declare home alternative (veil cover l s) ≡ can_declare home alternative s
-  can_same home alternative s o = ap (λ (b : Bool). not (alternative == home) && (b && can_ask home alternative s.routing)) (up_same s o alternative)
+  can_same home alternative s o = ap (λ (b : Bool). not (alternative == home) && (b && can_ask home alternative s.routing)) (open_same s o alternative)
 
   some_same : (home alternative n : ℕ) (s : State) → IsOut s → some_declare home alternative n (veil cover l s) ≡ some_declare home alternative n s
   some_same home alternative zero s o = refl
@@ -492,14 +505,21 @@ module _ (cover : LinkState) (not_up : has_phase_up cover.phase ≡ false) (l : 
   find_alike (Some fate) number s = record { answer = refl; state = refl }
   find_alike None number s = record { answer = refl; state = refl }
 
+  opened_same : (n : ℕ) (link : LinkState) (s : State) → (n == l) ≡ false → opened n link (veil cover l s) ≡ veil cover l (opened n link s)
+  opened_same n link s d = ap (λ (ls : List LinkState). record (opened n link s) { links = ls }) (swap s.links n l (opened_link link) cover d)
+
   rises_alike : (n : ℕ) (s : State) (phase : Phase) → (n == l) ≡ false → IsAlike cover l (rises n (veil cover l s) phase) (rises n s phase)
   rises_alike n s Up d = refused_alike s SetRefusal.NotDown
   rises_alike n s Down d = refused_alike s SetRefusal.Unsettled
   rises_alike n s Settled d = record {
     answer = refl;
-    state = ap (λ (o : Option LinkState). record (rises n s Settled).state { links = slice_set (veil cover l s).links n (risen_link s.settings.profile s.settings.method (late_in o)) }) (other_link s n d)
-        ∙ ap (λ (ls : List LinkState). record (rises n s Settled).state { links = ls }) (swap s.links n l _ cover d);
+    state = ap (λ (o : Option LinkState). opened n (new (late_in o)) (with_link n (new (late_in o)) (veil cover l s))) (other_link s n d)
+        ∙ ap (opened n (new (late_at n s))) (set_other s n (new (late_at n s)) d)
+        ∙ opened_same n (new (late_at n s)) (with_link n (new (late_at n s)) s) d;
   }
+    where
+      new : ℕ → LinkState
+      new late = risen_link s.settings.profile s.settings.method late
 
   falls_alike : (blind : Bool) (n : ℕ) (s : State) (link : LinkState) → (n == l) ≡ false → IsOut s
       → IsAlike cover l (falls blind n (veil cover l s) link) (falls blind n s link)
@@ -544,6 +564,11 @@ module _ (cover : LinkState) (not_up : has_phase_up cover.phase ≡ false) (l : 
       go true = controls_alike unit n s link d other o
       go false = refused_alike s SetRefusal.Nothing
 
+  restores_alike : (n : ℕ) (s : State) (link : LinkState) (b : Bool) → IsOut s
+      → IsAlike cover l (cond b (comes_back n (veil cover l s)) (refused (veil cover l s) SetRefusal.NotUp)) (cond b (comes_back n s) (refused s SetRefusal.NotUp))
+  restores_alike n s link true o = comes_alike n s o
+  restores_alike n s link false o = refused_alike s SetRefusal.NotUp
+
   all_alike : (s : State) (event : Event) → IsOut s → IsElsewhere l s event → IsAlike cover l (step (veil cover l s) event) (step s event)
   unfolding step
   all_alike s (Offer body) o other = offer_alike (offer_refusal s.settings.profile s.rows body) s body o
@@ -556,7 +581,7 @@ module _ (cover : LinkState) (not_up : has_phase_up cover.phase ≡ false) (l : 
   all_alike s (DownBlind n) o other = service_alike n s (falls true n) o (λ link d. falls_alike true n s link d o)
   all_alike s (NoAnswer n) o other = there_alike n s (λ t link. gives_up n t link link.phase) other (λ link. gives_alike n s link link.phase other o)
   all_alike s (Timed n) o other = there_alike n s (λ t link. times_out n t link link.phase) other (λ link. times_alike n s link link.phase other o)
-  all_alike s (Restore n) o other = service_alike n s (λ t link. comes_back n t) o (λ link d. comes_alike n s o)
+  all_alike s (Restore n) o other = service_alike n s (restores n) o (λ link d. restores_alike n s link (open_link link) o)
   all_alike s (Redeclare n) o other = known_alike (redeclares n) n s o (redeclares_alike n s o)
   all_alike s (BackTimeout n) o other = timeout_alike n s o
   all_alike s (Test n) o other = service_alike n s (λ t link. refused t SetRefusal.Nothing) o (λ link d. refused_alike s SetRefusal.Nothing)

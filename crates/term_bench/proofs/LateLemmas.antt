@@ -1,6 +1,7 @@
 -- HOW MANY LATE ORDERS the set heard about a link stays where a step's answer tells of no order: of all that a step does to
 -- a link only such an order counts. Case by case on the event; `declared_links` and `released_links` are inductions on the
 -- links. And where no count changed no link is told to stop.
+use Rattle.set_model.proofs.Lists.{get_set_same, within}
 use Rattle.std.proofs.Common.{refl, sym, ap, arith, ◌≡◌, ◌∙◌, ◌<◌, ◌≤◌, ◌+◌, ℕ, zero, suc, Bool, true, false, List, [], ◌∷◌, length, Option, Some, None, slice_get, slice_set, cond}
 use Rattle.l3_orders.specs.declared.order.Order.{Order}
 use Rattle.l3_orders.specs.declared.order.Order.TheVariants.{Coo, Coa, Cbd, Cba, Eco, Eca}
@@ -19,10 +20,10 @@ use Rattle.set_model.specs.declared.phase.Phase.TheVariants.{Up, Down, Settled}
 use Rattle.set_model.specs.declared.reached.Reached.{Reached}
 use Rattle.set_model.specs.declared.reached.Reached.TheVariants.{Upto, Unknown}
 use Rattle.set_model.specs.Rows.{Fate, Waiting, Unacked, Acked, Held, Back, Parked, Discarded, place}
-use Rattle.set_model.specs.State.{LinkState, State, has_phase_up, late_at, late_in, link_count}
+use Rattle.set_model.specs.State.{open_link, LinkState, State, has_phase_up, late_at, late_in, link_count}
 use Rattle.set_model.proofs.Walk.{redeclared_links}
 use Rattle.set_model.specs.Changeover.{acknowledged_back, answered, at_link, can_declare, changed_over, cleared, declared, declared_from, declared_if, obeyed, order_obeyed, released, released_from, some_declare, some_in_use, some_overdue}
-use Rattle.set_model.specs.Step.{Outcome, brought, comes_back, controls, controlled, falls, found, gives_up, heard, in_service, is_heard, next, offer_refusal, offered, on_link, part_in, redeclares, refused, rises, runs_out, step, timed, times_out, taken, takes, with_known}
+use Rattle.set_model.specs.Step.{restores, opened_link, risen, risen_link, Outcome, brought, comes_back, controls, controlled, falls, found, gives_up, heard, in_service, is_heard, next, offer_refusal, offered, on_link, part_in, redeclares, refused, rises, runs_out, step, timed, times_out, taken, takes, with_known}
 use Rattle.term_bench.specs.Ends.{AtLink}
 use Rattle.term_bench.specs.Late.{AreLate, brings_order, ended_from, is_order}
 use Rattle.term_bench.proofs.BenchLemmas.{not_late}
@@ -87,7 +88,10 @@ module _ (n : ℕ) where
   rises_keeps : (k : ℕ) (s : State) (link : LinkState) (phase : Phase) → slice_get s.links k ≡ Some link → Keeps s (rises k s phase)
   rises_keeps k s link Up e = λ none. refl
   rises_keeps k s link Down e = λ none. refl
-  rises_keeps k s link Settled e = λ none. set_late s.links k link _ e (ap late_in e) n
+  rises_keeps k s link Settled e = λ none.
+      let new = risen_link s.settings.profile s.settings.method (late_at k s) in
+      set_late (risen k s).links k new (opened_link new) (get_set_same s.links k new (within s.links k link e)) refl n
+      ∙ set_late s.links k link new e (ap late_in e) n
 
   falls_keeps : (blind : Bool) (k : ℕ) (s : State) (link : LinkState) → slice_get s.links k ≡ Some link → Keeps s (falls blind k s link)
   falls_keeps blind k s link e = λ none. set_late s.links k link _ e refl n
@@ -189,7 +193,7 @@ module _ (n : ℕ) where
   late_stays s (DownBlind k) = service_keeps k s _ (λ link e. falls_keeps true k s link e)
   late_stays s (NoAnswer k) = known_keeps k s _ (λ link e. gives_keeps k s link link.phase e)
   late_stays s (Timed k) = known_keeps k s _ (λ link e. times_keep k s link link.phase e)
-  late_stays s (Restore k) = service_keeps k s _ (λ link e. comes_keeps k s)
+  late_stays s (Restore k) = service_keeps k s (restores k s) (λ link e. if_keeps (open_link link) s (comes_back k s) SetRefusal.NotUp (comes_keeps k s))
   late_stays s (Redeclare k) = known_keeps k s _ (λ link e. redeclares_keep k s)
   late_stays s (BackTimeout k) = known_keeps k s _ (λ link e. runs_keeps k s)
   late_stays s (Test k) = service_keeps k s _ (λ link e none. refl)

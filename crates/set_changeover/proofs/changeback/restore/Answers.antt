@@ -2,20 +2,27 @@ use Rattle.std.proofs.Common.{subst, ℕ, ◌-◌, ◌+◌, arith, ◌≡◌, �
 use Rattle.std.proofs.lemmas.Bool.Decides.{nat_tests}
 use Rattle.set_queues.specs.Bodies.{CanHold}
 use Rattle.set_queues.specs.Buffers.{Waiting}
-use Rattle.set_model.specs.Step.{comes_back}
+use Rattle.set_model.specs.Step.{restores}
 use Rattle.set_changeover.specs.Parts.{Up}
-use Rattle.set_changeover.proofs.Links.{served, is_in, whole_of}
+use Rattle.set_changeover.proofs.Links.{open_there, served, is_in, whole_of}
 use Rattle.set_model.specs.Changeover.{declared_from, declared_if}
 use Rattle.set_changeover.proofs.Declaring.{count_is, becomes_next}
 use Rattle.set_changeover.proofs.changeback.restore.Goals as goal
 
+pub returns-then-not-is_open-clause-ok : goal.returns-then-not-is_open-clause-ok
+returns-then-not-is_open-clause-ok o c = λ s a.
+    let i = is_in c.args.parts.now s c.args.number Up a c.in_default.ensures.here in
+    served s c.args.number (restores c.args.number s) _ c.args.parts.now i
+    (rw (open_there c.args.parts.now s c.args.number Up c.is_open.result a i c.is_open.ensures, c.if-not-is_open.true)
+    (record { answer_is = c.set_refused-then-not-is_open.ensures; stands = a.stands }))
+
 pub returns-then-not-has_alternative-clause-ok : goal.returns-then-not-has_alternative-clause-ok
 returns-then-not-has_alternative-clause-ok o c = λ s a.
-    served s c.args.number (λ link. comes_back c.args.number s) _ c.args.parts.now (is_in c.args.parts.now s c.args.number Up a c.in_default.ensures.here) (rw (sym (c.has_alternative.ensures s a.stands) ∙ c.if-not-has_alternative.true) (record { answer_is = c.set_refused-then-not-has_alternative.ensures; stands = a.stands }))
+    served s c.args.number (restores c.args.number s) _ c.args.parts.now (is_in c.args.parts.now s c.args.number Up a c.in_default.ensures.here) (rw (open_there c.args.parts.now s c.args.number Up c.is_open.result a (is_in c.args.parts.now s c.args.number Up a c.in_default.ensures.here) c.is_open.ensures, c.if-not-is_open.false, sym (c.has_alternative.ensures s a.stands) ∙ c.if-not-has_alternative.true) (record { answer_is = c.set_refused-then-not-has_alternative.ensures; stands = a.stands }))
 
 pub returns-clause-ok : goal.returns-clause-ok
 returns-clause-ok o c = λ s a. let end : c.loop-alternative.alternative ≡ length c.args.parts.now.links.items = omega (arith, (whole_of c.args.parts.now c.requires.holds).few) in
-    served s c.args.number (λ link. comes_back c.args.number s) c.set_done.new.self c.loop-alternative.parts (is_in c.args.parts.now s c.args.number Up a c.in_default.ensures.here) (rw (sym (c.has_alternative.ensures s a.stands) ∙ c.if-not-has_alternative.false) (record {
+    served s c.args.number (restores c.args.number s) c.set_done.new.self c.loop-alternative.parts (is_in c.args.parts.now s c.args.number Up a c.in_default.ensures.here) (rw (open_there c.args.parts.now s c.args.number Up c.is_open.result a (is_in c.args.parts.now s c.args.number Up a c.in_default.ensures.here) c.is_open.ensures, c.if-not-is_open.false, sym (c.has_alternative.ensures s a.stands) ∙ c.if-not-has_alternative.false) (record {
       answer_is = c.set_done.ensures;
       stands = rw (count_is c.args.parts.now s a.stands, ← end) (c.loop-alternative.invariant.stands s a.stands);
     }))

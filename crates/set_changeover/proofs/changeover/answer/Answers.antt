@@ -1,6 +1,6 @@
 use Rattle.std.proofs.Common.{rules, refl, sym, arith, ◌≡◌, ◌∙◌, Some}
 use Rattle.set_changeover.specs.Parts.{Down}
-use Rattle.set_changeover.proofs.Links.{here_room, is_in, not_left, reach_here}
+use Rattle.set_changeover.proofs.Links.{here_room, is_in, not_left, out_at, reach_here}
 use Rattle.set_changeover.proofs.changeover.answer.Goals as goal
 
 pub settle-requires-clause-room : goal.settle-requires-clause-room
@@ -8,6 +8,12 @@ settle-requires-clause-room o c =
     let e : c.phase_of.result ≡ Some Down = search rules in
     let h = rw e at c.phase_of.ensures.here in
     here_room c.args.parts.now c.args.number 1 Down h refl (c.requires.room h.known)
+
+pub settle-requires-clause-out : goal.settle-requires-clause-out
+settle-requires-clause-out o c =
+    let e : c.phase_of.result ≡ Some Down = search rules in
+    let h = rw e at c.phase_of.ensures.here in
+    out_at c.args.parts.now.links.items c.args.number Down h refl
 
 pub settle-requires-clause-reached : goal.settle-requires-clause-reached
 settle-requires-clause-reached o c =

@@ -130,3 +130,8 @@ settle-requires-in-Some-Down-clause-reached o c =
 -- of no link of the set it's ignored
 pub returns-in-None : goal.returns-in-None
 returns-in-None o c = record { stands = λ s a. none_there c.args.parts.now s c.args.number (changed_over c.args.reached c.args.number) a (sym c.in-None.is ∙ c.phase_of.ensures.value) }
+
+pub settle-requires-in-Some-Down-clause-out : goal.settle-requires-in-Some-Down-clause-out
+settle-requires-in-Some-Down-clause-out o c =
+    let h = rw c.in-Some-Down.field-0-is at c.in-Some-Down.ensures.here in
+    out_at c.args.parts.now.links.items c.args.number Down h refl

@@ -2,10 +2,10 @@ use Rattle.std.proofs.Common.{◌∙◌, refl, arith, ap, sym, subst, length, Li
 use Rattle.set_queues.specs.Buffers.{Lists}
 use Rattle.set_route.specs.Routing.{raised}
 use Rattle.set_model.specs.Rows.{Waiting}
-use Rattle.set_model.specs.Step.{risen_link}
+use Rattle.set_model.specs.Step.{opened_link, risen_link}
 use Rattle.set_changeover.specs.Parts.{Settled, kept_of}
 use Rattle.set_model.specs.State.{LinkState, late_at, late_in}
-use Rattle.set_model.proofs.Lists.{within}
+use Rattle.set_model.proofs.Lists.{set_twice, within}
 use Rattle.set_changeover.proofs.Links.{agrees_same, is_in, stands_for}
 use Rattle.set_changeover.proofs.States.{becomes, risen_for}
 use Rattle.set_step.proofs.Kept.{is_empty}
@@ -28,9 +28,9 @@ returns-in_ok-make_room_parked-in-Some-Settled-clause-ok o c = λ s a.
     let f = (agrees_same c.args.parts.now roomy s c.in_ok-make_room_parked-in-Some-Settled.ensures.same a).stands in
     let i = is_in c.args.parts.now s n Settled a (rw c.in-Some-Settled.field-0-is at c.in-Some-Settled.ensures.here) in
     let known = subst (λ (ls : List LinkState). n < length ls) (sym f.links) (within s.links n i.link i.there) in
-    let same = ap (λ (l : LinkState). l.late) (stands_for roomy.links.items n c.from.result c.index_mut.result.now c.from.ensures known c.index_mut.ensures.value s.links i.link f.links i.there) ∙ sym (ap late_in i.there) in
-    rw (i.there, i.phase_is) (record {
+    let same = ap (λ (l : LinkState). l.late) (stands_for roomy.links.items n c.from.result c.index_mut-link.result.now c.from.ensures known c.index_mut-link.ensures.value s.links i.link f.links i.there) ∙ sym (ap late_in i.there) in
+    rw (i.there, i.phase_is, set_twice s.links n (risen_link s.settings.profile s.settings.method (late_at n s)) (opened_link (risen_link s.settings.profile s.settings.method (late_at n s)))) (record {
       answer_is = c.set_done.ensures;
-      stands = becomes (risen_for (kept_of roomy) s n i.link (risen_link s.settings.profile s.settings.method (late_at n s)) (raised n s.routing) f i.there refl (sym (a.sound.links n i.link i.there).profile))
-          (rw (c.divert.ensures.messages, c.divert.ensures.lists, c.reset.ensures.lists, c.reset.ensures.same.0, f.links, c.from.ensures, c.rise.ensures, same, c.profile-profile.ensures, ← f.settings, c.raise.ensures, f.routing) refl);
+      stands = becomes (risen_for (kept_of roomy) s n i.link (opened_link (risen_link s.settings.profile s.settings.method (late_at n s))) (raised n s.routing) f i.there refl (sym (a.sound.links n i.link i.there).profile))
+          (rw (c.divert.ensures.messages, c.divert.ensures.lists, c.reset.ensures.lists, c.reset.ensures.same.0, f.links, c.from.ensures, c.pass_test.ensures, c.rise.ensures, same, c.profile-profile.ensures, ← f.settings, c.raise.ensures, f.routing) refl);
     })

@@ -3,7 +3,7 @@ use Rattle.l2_units.specs.Grammar.{head_of}
 use Rattle.l2_units.specs.Lent.{unit_in}
 use Rattle.set_model.specs.Control.{Control, control_heard}
 use Rattle.set_model.specs.Step.{is_msu, one_if, after_control}
-use Rattle.set_model.specs.State.{LinkState, State, window_of}
+use Rattle.set_model.specs.State.{open_link, LinkState, State, window_of}
 use Rattle.set_changeover.specs.declared.link.Link.{Link}
 use Rattle.set_changeover.specs.Agreement.{StandsFor}
 use Rattle.set_changeover.specs.Parts.{kept_of, IsCounted}
@@ -18,7 +18,7 @@ tells o c s link there f = told c.args.parts.now s c.args.number c.from.result c
 
 -- the link as it was, and as it counts
 abbrev was : (o : Over) (c : After-hear-part o) → Link
-was o c = record { phase = c.link.inside.phase; profile = c.link.inside.profile; blind = c.link.inside.blind; answered = c.link.inside.answered; acked = c.link.inside.acked; accepted = c.link.inside.accepted; control = c.link.inside.control; late = c.link.inside.late; order = c.link.inside.order }
+was o c = record { phase = c.link.inside.phase; tested = c.link.inside.tested; profile = c.link.inside.profile; blind = c.link.inside.blind; answered = c.link.inside.answered; acked = c.link.inside.acked; accepted = c.link.inside.accepted; control = c.link.inside.control; late = c.link.inside.late; order = c.link.inside.order }
 
 abbrev counted : ℕ → ℕ → Control → Link → Link
 counted acked accepted control link = record link { acked = link.acked + acked; accepted = link.accepted + accepted; control = control }
@@ -60,7 +60,7 @@ pub returns-clause-keeps : goal.returns-clause-keeps
 returns-clause-keeps o c = record {
   queues = c.acknowledge.ensures.keeps;
   bodies = refl;
-  phases = set_view c.args.parts.now.links.items c.args.number c.from.result c.index_mut-link.result.now c.from.ensures c.requires.known c.index_mut-link.ensures.value (λ l. l.phase) _ (ap (λ (l : Link). l.phase) c.link.view_is);
+  opens = set_view c.args.parts.now.links.items c.args.number c.from.result c.index_mut-link.result.now c.from.ensures c.requires.known c.index_mut-link.ensures.value (λ l. open_link l) _ (ap (λ (l : Link). open_link l) c.link.view_is);
   inbox = refl;
   config = refl;
 }
