@@ -1,3 +1,5 @@
+pub mod Courses
 pub mod Forms
+pub mod Runs
 pub mod Told
 pub mod Written

@@ -11,6 +11,9 @@
 //!    ^ 0 to 11: what was asked, and 16 times 0 to 6: what was answered, and 128 for a terminal
 //! ```
 //!
+//! A link that carries no message repeats two entries all day, and 16 such links in turn repeat 32. A run of entries
+//! that repeat the last ones in turn is counted, and not written: it takes the same memory however long it is.
+//!
 //! Contracts see the list of entries. Whoever reads it goes from the first to the last by a [`Reader`], and sees each
 //! entry ([`EntryRef`]) where it's kept, without a copy.
 //!
@@ -18,10 +21,14 @@
 #![tactic(auto)]
 
 mod entry_ref;
+mod fill_in;
 mod forms;
 mod history;
 mod octets;
+mod pushing;
 mod reader;
+mod run;
+mod watch;
 mod writing;
 
 pub use entry_ref::EntryRef;

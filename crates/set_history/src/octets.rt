@@ -1,4 +1,6 @@
 //! Octets to an entry. Octets that no entry was written to are read, too, as some entry.
+ghost use Rattle.std.specs.Prelude.{◌≡◌, take, drop};
+
 use super::entry_ref::EntryRef;
 use super::forms::{fate_of, refusal_of, report_of};
 use l2_units::{LONGEST_BODY, Status, UnitRef, wide_form_of, wide_header_of};
@@ -21,8 +23,17 @@ impl<'a> Model for Octets<'a> {
     ghost view = { λ o. o.left.now };
 }
 
+/// The first octets, so many or as many as there are, and those behind.
+#[inline(always)]
+pub(crate) fn apart<'a>(octets: &'a [u8], size: usize) -> (&'a [u8], &'a [u8])
+    ensures first { result.0.now ≡ take size octets.now }
+    ensures behind { result.1.now ≡ drop size octets.now }
+{
+    octets.split_at(size.min(octets.len()))
+}
+
 impl<'a> Octets<'a> {
-    ghost use Rattle.std.specs.Prelude.{◌≡◌, ◌≤◌, ◌^◌, ◌+◌, ◌*◌, if◌then◌else◌, length, take, drop};
+    ghost use Rattle.std.specs.Prelude.{◌≤◌, ◌^◌, ◌+◌, ◌*◌, if◌then◌else◌, length};
     ghost use Rattle.l2_units.specs.Lent.{body_in as unit_body, unit_in};
     ghost use Rattle.set_events.specs.Lent.{HasFitUnit, answer_in, body_in, event_in};
     ghost use Rattle.set_history.specs.Told.{octet, chunk, number, behind_number, body, behind_body, unit, behind_unit};
