@@ -8,6 +8,7 @@ use super::tally::{LONGEST_HISTORY, Tally};
 use boxcar::tag::{Names, Tag};
 use set_events::{Actor, Answer, Books, Counts, Event, EventRef, Fate, Reply, SetConfig};
 use set_history::{History, Reader};
+use set_route::Place;
 use set_step::{Core, Numbered, SetFault};
 use std::alloc::{AllocError, Allocator, Global};
 use std::marker::Model;
@@ -17,7 +18,9 @@ use std::marker::Model;
 ///
 /// Readers: [`SetCore::base`], [`SetCore::place_of`], [`SetCore::counts`], [`SetCore::books`],
 /// [`SetCore::acknowledged`], [`SetCore::entries`], [`SetCore::history`], [`SetCore::config`], [`SetCore::links`],
-/// [`SetCore::is_up`], [`SetCore::is_settled`], [`SetCore::late`], [`SetCore::unacked_at`], [`SetCore::push_numbers_on`].
+/// [`SetCore::is_up`], [`SetCore::is_settled`], [`SetCore::late`], [`SetCore::unacked_at`], [`SetCore::push_numbers_on`],
+/// [`SetCore::stream_place`], [`SetCore::waiting_on`], [`SetCore::unacked_on`], [`SetCore::held_on`], [`SetCore::unsent`],
+/// [`SetCore::inbox_len`].
 /// The one input: [`SetCore::apply`], or [`SetCore::apply_into`], which leaves a body where it stands and puts the answer into a
 /// place that the caller lends. [`SetCore::checkpoint`] makes what it holds its base.
 ///
@@ -59,9 +62,10 @@ impl<A: Allocator + Copy> SetCore<A> {
     ghost use Rattle.std.specs.Prelude.{◌≡◌, ◌<◌, ◌≤◌, ◌^◌, ◌↔◌, ◌+◌, ◌++◌, IfOk, IfErr, OnOk, OnErr, length, sum};
     ghost use Rattle.set_model.specs.State.{given, settings_of, link_count, is_up as is_up_in, is_settled as is_settled_in, late_at, unacked_in};
     ghost use Rattle.set_model.specs.Sound.{IsSound};
-    ghost use Rattle.set_model.specs.Rows.{held, numbers as numbers_of, place, total_of, unack, wait};
+    ghost use Rattle.set_model.specs.Rows.{held, numbers as numbers_of, place, total_of, unack, unsent, wait};
     ghost use Rattle.set_model.specs.Checkpoint.{counts_in};
     ghost use Rattle.set_core.specs.Gaining.{BooksGain, AreBounded};
+    ghost use Rattle.set_route.specs.Routing.{place_of as place_of_stream};
     ghost use Rattle.set_events.specs.Lent.{HasFitUnit, event_in};
     ghost use Rattle.set_changeover.specs.Agreement.{Agrees};
     ghost use Rattle.set_model.specs.History.{new_set, based, IsStep, IsActor, IsLegal, after, books_in, entries_in, longest_history};
@@ -322,5 +326,53 @@ impl<A: Allocator + Copy> SetCore<A> {
         ensures { IsSound self.now.state }
     {
         let _ = &self.core;
+    }
+
+    /// Where this stream of the set runs.
+    ///
+    /// Condition: a stream below 16.
+    pub fn stream_place(&self, stream: u8) -> Place
+        requires { stream < 16 }
+        ensures { result ≡ place_of_stream stream self.now.state.routing }
+    {
+        self.core.stream_place(stream)
+    }
+
+    /// How many messages wait for this link, orders among them; none for a link that the set hasn't.
+    pub fn waiting_on(&self, link: u8) -> u64
+        ensures { result ≡ length (wait link self.now.state.rows) }
+    {
+        self.core.waiting_on(link)
+    }
+
+    /// How many messages were sent on this link and aren't acknowledged, orders among them; none on a link that the set hasn't.
+    pub fn unacked_on(&self, link: u8) -> u64
+        ensures { result ≡ length (unack link self.now.state.rows) }
+    {
+        self.core.unacked_on(link)
+    }
+
+    /// How many messages are held for this link, orders among them; none for a link that the set hasn't.
+    pub fn held_on(&self, link: u8) -> u64
+        ensures { result ≡ length (held link self.now.state.rows) }
+    {
+        self.core.held_on(link)
+    }
+
+    /// How many of the users' messages of this stream aren't sent yet.
+    ///
+    /// Condition: a stream below 16.
+    pub fn unsent(&self, stream: u8) -> u64
+        requires { stream < 16 }
+        ensures { result ≡ length (unsent stream self.now.state.rows) }
+    {
+        self.core.unsent(stream)
+    }
+
+    /// How many messages for users were heard and not taken.
+    pub fn inbox_len(&self) -> u64
+        ensures { result ≡ length self.now.state.inbox }
+    {
+        self.core.inbox_len()
     }
 }

@@ -4,7 +4,10 @@ use Rattle.std.proofs.Common.{refl, arith, ◌≡◌, ◌∙◌, ap, sym, ◌≤
 use Rattle.std.proofs.lemmas.List.{append_assoc, append-nil}
 use Rattle.std.proofs.lemmas.Option.{slice_get_past}
 use Rattle.set_queues.specs.Buffers.{queue_at}
-use Rattle.set_model.specs.Rows.{Held, Unacked, Waiting, held, numbers, unack, wait}
+use Rattle.set_model.specs.Rows.{Fate, Held, Row, Unacked, Waiting, held, numbers, unack, unsent, wait}
+use Rattle.set_queues.specs.Messages.{unsent_of}
+use Rattle.set_traffic.proofs.Counts.{unsent_is}
+use Rattle.std.proofs.lemmas.List.{length-map}
 use Rattle.set_model.specs.State.{State}
 use Rattle.set_changeover.specs.Agreement.{Kept, StandsFor}
 
@@ -39,3 +42,42 @@ none_listed k s link first f past =
     let nothing : ((first ++ queue_at (Unacked link) k.lists) ++ queue_at (Waiting link) k.lists) ++ queue_at (Held link) k.lists ≡ first =
     rw (sent, waiting, aside) (append-nil ((first ++ []) ++ []) ∙ append-nil (first ++ []) ∙ append-nil first) in
     sym nothing ∙ listed k s link first f
+
+-- HOW MANY THERE ARE: as many as the queue has, and none on a link that isn't there
+
+many : (n : ℕ) (queue : List ℕ) (rows : List Row) → n ≡ length queue → queue ≡ numbers rows → n ≡ length rows
+many n queue rows count same = count ∙ ap (λ (ns : List ℕ). length ns) same ∙ length-map rows (λ (row : Row). row.number)
+
+pub as_many_wait : (k : Kept) (s : State) (link n : ℕ) → StandsFor k s → n ≡ length (queue_at (Waiting link) k.lists)
+    → n ≡ length (wait link s.rows)
+as_many_wait k s link n f count = many n (queue_at (Waiting link) k.lists) (wait link s.rows) count (f.stands.queues (Waiting link) refl)
+
+pub as_many_sent : (k : Kept) (s : State) (link n : ℕ) → StandsFor k s → n ≡ length (queue_at (Unacked link) k.lists)
+    → n ≡ length (unack link s.rows)
+as_many_sent k s link n f count = many n (queue_at (Unacked link) k.lists) (unack link s.rows) count (f.stands.queues (Unacked link) refl)
+
+pub as_many_held : (k : Kept) (s : State) (link n : ℕ) → StandsFor k s → n ≡ length (queue_at (Held link) k.lists)
+    → n ≡ length (held link s.rows)
+as_many_held k s link n f count = many n (queue_at (Held link) k.lists) (held link s.rows) count (f.stands.queues (Held link) refl)
+
+pub none_waits : (k : Kept) (s : State) (link : ℕ) → StandsFor k s → length k.lists.links ≤ link → 0 ≡ length (wait link s.rows)
+none_waits k s link f past =
+    let none = slice_get_past k.lists.links link past in
+    let nothing : queue_at (Waiting link) k.lists ≡ [] = rw none refl in
+    as_many_wait k s link 0 f (ap (λ (ns : List ℕ). length ns) (sym nothing))
+
+pub none_sent : (k : Kept) (s : State) (link : ℕ) → StandsFor k s → length k.lists.links ≤ link → 0 ≡ length (unack link s.rows)
+none_sent k s link f past =
+    let none = slice_get_past k.lists.links link past in
+    let nothing : queue_at (Unacked link) k.lists ≡ [] = rw none refl in
+    as_many_sent k s link 0 f (ap (λ (ns : List ℕ). length ns) (sym nothing))
+
+pub none_held : (k : Kept) (s : State) (link : ℕ) → StandsFor k s → length k.lists.links ≤ link → 0 ≡ length (held link s.rows)
+none_held k s link f past =
+    let none = slice_get_past k.lists.links link past in
+    let nothing : queue_at (Held link) k.lists ≡ [] = rw none refl in
+    as_many_held k s link 0 f (ap (λ (ns : List ℕ). length ns) (sym nothing))
+
+pub as_many_unsent : (k : Kept) (s : State) (stream n : ℕ) → StandsFor k s → n ≡ unsent_of stream k.messages
+    → n ≡ length (unsent stream s.rows)
+as_many_unsent k s stream n f count = count ∙ unsent_is stream k.lists k.messages s.rows f.stands

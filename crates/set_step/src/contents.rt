@@ -3,8 +3,9 @@ ghost use Rattle.std.specs.Prelude.{◌≡◌, ◌<◌, ◌+◌, ◌%◌, ◌^�
 ghost use Rattle.l2_window.specs.Window.{fsn_count};
 ghost use Rattle.set_events.specs.Lent.{event_in};
 ghost use Rattle.set_model.specs.Checkpoint.{checkpointed, counts_in};
-ghost use Rattle.set_model.specs.Rows.{held, numbers as numbers_of, place, total_of, unack, users, wait};
+ghost use Rattle.set_model.specs.Rows.{held, numbers as numbers_of, place, total_of, unack, unsent, users, wait};
 ghost use Rattle.set_queues.specs.Buffers.{IsKnown, queue_at};
+ghost use Rattle.set_route.specs.Routing.{place_of as place_of_stream};
 ghost use Rattle.set_model.specs.State.{State, all_finished, given, new_state, link_count, is_up as is_up_in, is_settled as is_settled_in, late_at, unacked_in};
 ghost use Rattle.set_model.specs.History.{longest_history};
 ghost use Rattle.set_model.specs.Step.{step};
@@ -20,7 +21,7 @@ use set_changeover::{Link, Parts, phase_of};
 use set_events::{Counts, EventRef, Fate, Finished, Reply, SetConfig, SetFault};
 use set_model::{Numbered, Phase};
 use set_queues::{Bodies, Queues};
-use set_route::Routes;
+use set_route::{Place, Routes};
 use std::alloc::{AllocError, Allocator, Global};
 use std::collections::VecDeque;
 use std::marker::Model;
@@ -30,8 +31,9 @@ use std::marker::Model;
 ///
 /// Contracts see what is kept, and say of every state of the model that it agrees with what becomes of it.
 /// Readers: [`Core::place_of`], [`Core::links`], [`Core::is_up`], [`Core::is_settled`], [`Core::late`],
-/// [`Core::numbers_given`], [`Core::finished`], [`Core::counts`], [`Core::unacked_at`], [`Core::push_numbers_on`]. The one
-/// input: [`Core::apply`]. [`Core::forget`] is a checkpoint, [`Core::kept`] what one keeps of it, and [`Core::copied`] the
+/// [`Core::numbers_given`], [`Core::finished`], [`Core::counts`], [`Core::unacked_at`], [`Core::push_numbers_on`],
+/// [`Core::stream_place`], [`Core::waiting_on`], [`Core::unacked_on`], [`Core::held_on`], [`Core::unsent`],
+/// [`Core::inbox_len`]. The one input: [`Core::apply`]. [`Core::forget`] is a checkpoint, [`Core::kept`] what one keeps of it, and [`Core::copied`] the
 /// same again.
 #[derive(Drop)]
 pub struct Core<A: Allocator = Global> {
@@ -244,6 +246,66 @@ impl<A: Allocator + Copy> Core<A> {
         push_queue(&self.parts.queues, Fate::Unacked { link }, numbers)?;
         push_queue(&self.parts.queues, Fate::Waiting { link }, numbers)?;
         push_queue(&self.parts.queues, Fate::Held { link }, numbers)
+    }
+
+    /// Where this stream runs.
+    ///
+    /// Condition: a stream below 16.
+    pub fn stream_place(&self, stream: u8) -> Place
+        requires { stream < 16 }
+        ensures { (s : State) → StandsFor self.now s → result ≡ place_of_stream stream s.routing }
+    {
+        self.parts.routes.place(stream)
+    }
+
+    /// How many messages wait for this link, orders among them; none for a link that the set hasn't.
+    #[tactic(auto, using(crate::proofs::Listed::as_many_wait, crate::proofs::Listed::none_waits))]
+    pub fn waiting_on(&self, link: u8) -> u64
+        ensures { (s : State) → StandsFor self.now s → result ≡ length (wait link s.rows) }
+    {
+        if usize::from(link) >= self.parts.queues.links() {
+            return 0;
+        }
+        self.parts.queues.count_at(Fate::Waiting { link }) as u64
+    }
+
+    /// How many messages were sent on this link and aren't acknowledged, orders among them; none on a link that the set hasn't.
+    #[tactic(auto, using(crate::proofs::Listed::as_many_sent, crate::proofs::Listed::none_sent))]
+    pub fn unacked_on(&self, link: u8) -> u64
+        ensures { (s : State) → StandsFor self.now s → result ≡ length (unack link s.rows) }
+    {
+        if usize::from(link) >= self.parts.queues.links() {
+            return 0;
+        }
+        self.parts.queues.count_at(Fate::Unacked { link }) as u64
+    }
+
+    /// How many messages are held for this link, orders among them; none for a link that the set hasn't.
+    #[tactic(auto, using(crate::proofs::Listed::as_many_held, crate::proofs::Listed::none_held))]
+    pub fn held_on(&self, link: u8) -> u64
+        ensures { (s : State) → StandsFor self.now s → result ≡ length (held link s.rows) }
+    {
+        if usize::from(link) >= self.parts.queues.links() {
+            return 0;
+        }
+        self.parts.queues.count_at(Fate::Held { link }) as u64
+    }
+
+    /// How many of the users' messages of this stream aren't sent yet.
+    ///
+    /// Condition: a stream below 16.
+    pub fn unsent(&self, stream: u8) -> u64
+        requires { stream < 16 }
+        ensures { (s : State) → StandsFor self.now s → result ≡ length (unsent stream s.rows) }
+    {
+        self.parts.queues.unsent(stream)
+    }
+
+    /// How many messages for users were heard and not taken.
+    pub fn inbox_len(&self) -> u64
+        ensures { (s : State) → StandsFor self.now s → result ≡ length s.inbox }
+    {
+        self.parts.inbox.len() as u64
     }
 }
 
