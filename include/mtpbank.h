@@ -1,5 +1,6 @@
 /*! \file mtpbank.h
- * One end of a set of SS7 signalling links (ITU-T Q.703, Q.704), octet by octet: libmtpbank_end.a.
+ * One end of a set of SS7 signalling links (ITU-T Q.703, Q.704), octet by octet: libmtpbank_end.a. At the foot: what the
+ * program's subcommands make of octets, libmtpbank_texts.a.
  *
  * An end has a signalling terminal for each of its 1 to 16 links, and the changeover and changeback between them. Its lines
  * are yours: each octet that comes on a link's line is a turn of its terminal, which puts one. So as many octets go out as
@@ -59,7 +60,7 @@ enum mtpbank_code {
 	MTPBANK_BAD_TIMERS = 37,      /*!< a timer of level 2 is 0 */
 	MTPBANK_BAD_TIMES = 38,       /*!< a timer of level 3 is 0 */
 	MTPBANK_NO_SUCH_USER = 48,    /*!< users have the numbers 0 to 63 */
-	MTPBANK_NO_SUCH_COMMAND = 49, /*!< no command has this number */
+	MTPBANK_NO_SUCH_COMMAND = 49, /*!< no command, or no subcommand, has this number */
 	MTPBANK_NO_ROOM = 50,         /*!< a buffer is too small */
 };
 
@@ -273,7 +274,44 @@ int32_t mtpbank_find(mtpbank_end *end, uint16_t user, uint64_t number, struct mt
  *  \returns MTPBANK_OK; MTPBANK_NO_MEMORY, and all is as it was */
 int32_t mtpbank_checkpoint(mtpbank_end *end);
 
-/* What the library takes memory by; you define them, or link examples/c/memory.c. A block is aligned to 16 octets. The three
+/*! Subcommands of the program (docs/TUTORIAL.md, and the --help of each). The numbers never change. */
+enum mtpbank_subcommand {
+	MTPBANK_PLAY = 0,          /*!< a script of two ends: what each of its lines answers */
+	MTPBANK_LADDER = 1,        /*!< a script: its chart */
+	MTPBANK_CAPTURE = 2,       /*!< a script: the units that both ends sent, as a file of pcap */
+	MTPBANK_HISTORY_A = 3,     /*!< a script: what end a was asked and answered */
+	MTPBANK_HISTORY_B = 4,     /*!< a script: what end b was */
+	MTPBANK_AUDIT = 5,         /*!< a history: whether it's legal */
+	MTPBANK_DECODE = 6,        /*!< units: what they say */
+	MTPBANK_DECODE_WIDE = 7,   /*!< units with 12-bit numbers: likewise */
+	MTPBANK_TERMINAL = 8,      /*!< lines that drive one end: what it answers */
+	MTPBANK_TERMINAL_KEEP = 9, /*!< the same, and a line at fault is answered */
+	MTPBANK_UNITS = 10,        /*!< octets of a line: what a terminal sees in them */
+	MTPBANK_EXPLAIN = 16,      /*!< added to any but MTPBANK_UNITS: a fault is explained, and numbers have words */
+};
+
+/*! How long both texts are. */
+struct mtpbank_lengths {
+	size_t printed; /*!< what is printed */
+	size_t told;    /*!< what is told of a fault; 0 where there was none */
+};
+
+MTPBANK_ASSERT(sizeof(struct mtpbank_lengths) == 16, "mtpbank_lengths");
+
+/*! What a subcommand makes of an input; in libmtpbank_texts.a. Nothing is kept from one call to the next, so any threads may
+ *  call it.
+ *  \param[in] subcommand enum mtpbank_subcommand
+ *  \param[in] input length octets of it: at most 2^24 of a script
+ *  \param[out] printed printed_room octets of place: what the program prints on standard output, at its front, no other octet
+ *  \param[out] told told_room octets of place: the lines that it prints on standard error, at its front, no other octet
+ *  \param[out] lengths of both texts
+ *  \returns MTPBANK_OK, also where the input has a fault, which is told: what is printed goes up to there then;
+ *           MTPBANK_NO_ROOM: printed and told are as they were, and lengths tells what is wanted; MTPBANK_NO_SUCH_COMMAND,
+ *           MTPBANK_NO_MEMORY: all is as it was */
+int32_t mtpbank_text(uint8_t subcommand, const uint8_t *input, size_t length, uint8_t *printed, size_t printed_room,
+		     uint8_t *told, size_t told_room, struct mtpbank_lengths *lengths);
+
+/* What the libraries take memory by; you define them, or link examples/c/memory.c. A block is aligned to 16 octets. The three
  * work on one heap, and are called by the threads that call ends. */
 struct mtpbank_block {
 	bool ok;  /*!< whether there was memory */

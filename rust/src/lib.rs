@@ -17,11 +17,14 @@
 
 mod memory;
 mod raw;
+#[cfg(feature = "texts")]
+mod texts;
 
 use std::fmt;
-use std::marker::PhantomData;
 
 pub use raw::{Found, Heard, Look, Set, Timers, Times};
+#[cfg(feature = "texts")]
+pub use texts::{text, Subcommand, Text};
 
 /// The most octets of a message.
 pub const LONGEST: usize = 273;
@@ -37,13 +40,47 @@ impl Code {
     pub const NO_SUCH_LINK: Code = Code(10);
     /// Memory was refused.
     pub const NO_MEMORY: Code = Code(16);
+    /// No command, or no subcommand, has this number.
+    pub const NO_SUCH_COMMAND: Code = Code(49);
     /// A buffer is too small.
     pub const NO_ROOM: Code = Code(50);
 }
 
+impl Code {
+    /// What it tells, as beside its number in `include/mtpbank.h`.
+    pub fn text(self) -> &'static str {
+        match self.0 {
+            0 => "done",
+            1 => "a message of fewer than 5 octets",
+            2 => "a message of more than 273 octets",
+            3 => "a message of service indicator 0, which is the management's",
+            4 => "1,024 messages of the stream are unsent",
+            7 => "the link was left, and what the far end has isn't known yet",
+            8 => "no message has this number",
+            9 => "there is nothing to take, or the link is so already",
+            10 => "the set has no such link",
+            11 => "the message was finished before a checkpoint",
+            16 => "memory was refused",
+            17 => "the history or a link's turns are at their end",
+            18 => "a turn of the link couldn't end before",
+            19 => "a unit with 12-bit numbers",
+            33 => "not 1 to 16 links",
+            34 => "a point code over 16383",
+            35 => "the management's service indicator isn't 0",
+            36 => "N1 isn't 1 to 127, or N2 not 1 to 34671",
+            37 => "a timer of level 2 is 0",
+            38 => "a timer of level 3 is 0",
+            48 => "users have the numbers 0 to 63",
+            49 => "no command, or no subcommand, has this number",
+            50 => "a buffer is too small",
+            _ => "a code that the header doesn't have",
+        }
+    }
+}
+
 impl fmt::Display for Code {
     fn fmt(&self, to: &mut fmt::Formatter<'_>) -> fmt::Result {
-        write!(to, "mtpbank answered {}", self.0)
+        write!(to, "mtpbank answered {}: {}", self.0, self.text())
     }
 }
 
@@ -64,11 +101,10 @@ pub enum Command {
     Recover,
 }
 
-/// One end of a set of links. It's closed when it's dropped, and stays on its thread.
+/// One end of a set of links. It's closed when it's dropped, and may go to another thread.
 #[derive(Debug)]
 pub struct End {
     raw: raw::End,
-    stays: PhantomData<*mut ()>,
 }
 
 fn done(code: i32) -> Result<(), Code> {
@@ -92,31 +128,29 @@ impl Timers {
 
 impl Times {
     /// Usual ones at 64 kbit/s (Q.704 16.8).
-    pub const USUAL: Times =
-        Times { t1: 6_400, t2: 11_200, t4: 6_400, t5: 6_400, t17: 8_000, k1: 64_000, k2: 480_000 };
+    pub const USUAL: Times = Times { t1: 6_400, t2: 11_200, t4: 6_400, t5: 6_400, t17: 8_000, k1: 64_000, k2: 480_000 };
 }
 
 impl End {
     /// Opens an end, whose links are out of service and not activated.
     pub fn open(set: &Set, timers: &Timers, times: &Times) -> Result<End, Code> {
-        let mut raw = raw::End { at: std::ptr::null_mut() };
-        done(unsafe { raw::mtpbank_open(set, timers, times, &mut raw) })?;
-        Ok(End { raw, stays: PhantomData })
+        let raw = raw::open(set, timers, times).map_err(Code)?;
+        Ok(End { raw })
     }
 
     /// A command to a link's terminal, obeyed in its next turn.
     pub fn command(&mut self, link: u8, command: Command) -> Result<(), Code> {
-        done(unsafe { raw::mtpbank_command(&mut self.raw, link, command as u8) })
+        done(raw::command(&mut self.raw, link, command as u8))
     }
 
     /// Level 3 manages a link from now on (Q.704 12.2).
     pub fn activate(&mut self, link: u8) -> Result<(), Code> {
-        done(unsafe { raw::mtpbank_activate(&mut self.raw, link) })
+        done(raw::activate(&mut self.raw, link))
     }
 
     /// Level 3 manages a link no more.
     pub fn deactivate(&mut self, link: u8) -> Result<(), Code> {
-        done(unsafe { raw::mtpbank_deactivate(&mut self.raw, link) })
+        done(raw::deactivate(&mut self.raw, link))
     }
 
     /// Octets came on a link's line: as many are put at the front of `put`.
@@ -130,40 +164,28 @@ impl End {
     /// The same: what the octets did that were heard, and whether all were.
     pub fn hear_some(&mut self, link: u8, octets: &[u8], put: &mut [u8]) -> (Heard, Result<(), Code>) {
         let mut heard = Heard::default();
-        let code = unsafe {
-            raw::mtpbank_hear(
-                &mut self.raw,
-                link,
-                octets.as_ptr(),
-                octets.len(),
-                put.as_mut_ptr(),
-                put.len(),
-                &mut heard,
-            )
-        };
+        let code = raw::hear(&mut self.raw, link, octets, put, &mut heard);
         (heard, done(code))
     }
 
     /// How a link stands.
     pub fn look(&mut self, link: u8) -> Result<Look, Code> {
         let mut look = Look::default();
-        done(unsafe { raw::mtpbank_look(&mut self.raw, link, &mut look) })?;
+        done(raw::look(&mut self.raw, link, &mut look))?;
         Ok(look)
     }
 
     /// A user offers a message, SIO and SIF: its number.
     pub fn offer(&mut self, user: u16, message: &[u8]) -> Result<u64, Code> {
         let mut number = 0;
-        let (at, length) = (message.as_ptr(), message.len());
-        done(unsafe { raw::mtpbank_offer(&mut self.raw, user, at, length, &mut number) })?;
+        done(raw::offer(&mut self.raw, user, message, &mut number))?;
         Ok(number)
     }
 
     /// A user takes the oldest message that was heard, if there is one.
     pub fn take(&mut self, user: u16) -> Result<Option<Vec<u8>>, Code> {
         let (mut room, mut length) = (vec![0; LONGEST], 0);
-        let code = unsafe { raw::mtpbank_take(&mut self.raw, user, room.as_mut_ptr(), room.len(), &mut length) };
-        match done(code) {
+        match done(raw::take(&mut self.raw, user, &mut room, &mut length)) {
             Ok(()) => {
                 room.truncate(length);
                 Ok(Some(room))
@@ -173,21 +195,35 @@ impl End {
         }
     }
 
+    /// A user takes message after message, oldest first, until there is none.
+    pub fn messages(&mut self, user: u16) -> Messages<'_> {
+        Messages { end: self, user }
+    }
+
     /// A user asks where a message stands.
     pub fn find(&mut self, user: u16, number: u64) -> Result<Found, Code> {
         let mut found = Found::default();
-        done(unsafe { raw::mtpbank_find(&mut self.raw, user, number, &mut found) })?;
+        done(raw::find(&mut self.raw, user, number, &mut found))?;
         Ok(found)
     }
 
     /// The history begins anew.
     pub fn checkpoint(&mut self) -> Result<(), Code> {
-        done(unsafe { raw::mtpbank_checkpoint(&mut self.raw) })
+        done(raw::checkpoint(&mut self.raw))
     }
 }
 
-impl Drop for End {
-    fn drop(&mut self) {
-        unsafe { raw::mtpbank_close(raw::End { at: self.raw.at }) }
+/// The messages of a user, each taken when it's asked for.
+#[derive(Debug)]
+pub struct Messages<'a> {
+    end: &'a mut End,
+    user: u16,
+}
+
+impl Iterator for Messages<'_> {
+    type Item = Result<Vec<u8>, Code>;
+
+    fn next(&mut self) -> Option<Self::Item> {
+        self.end.take(self.user).transpose()
     }
 }

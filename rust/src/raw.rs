@@ -1,11 +1,23 @@
-//! What `include/mtpbank.h` declares.
+//! What `include/mtpbank.h` declares, each function as a safe one: what that header asks of a caller holds of every reference and
+//! slice. All `unsafe` of this crate stands here, but for the memory.
 
 use std::ffi::c_void;
 
+/// An end that is open.
 #[repr(C)]
 #[derive(Debug)]
 pub struct End {
-    pub at: *mut c_void,
+    at: *mut c_void,
+}
+
+// What it owns may go from one thread to another: the law `may_go_to_another_thread` of crates/mtpbank_end/src/held.rt. Each call
+// borrows it alone, so one thread at a time calls it.
+unsafe impl Send for End {}
+
+/// The same, as it's given back.
+#[repr(C)]
+struct Closing {
+    at: *mut c_void,
 }
 
 /// A set of links: its own number, the point codes, N1 (0: basic error correction) and N2, how many links, and the SIO of the
@@ -84,13 +96,22 @@ pub struct Found {
     pub detail: u8,
 }
 
+/// How long both texts are.
+#[cfg(feature = "texts")]
+#[repr(C)]
+#[derive(Default)]
+pub struct Lengths {
+    pub printed: usize,
+    pub told: usize,
+}
+
 extern "C" {
-    pub fn mtpbank_open(set: &Set, timers: &Timers, times: &Times, end: &mut End) -> i32;
-    pub fn mtpbank_close(end: End);
-    pub fn mtpbank_command(end: &mut End, link: u8, number: u8) -> i32;
-    pub fn mtpbank_activate(end: &mut End, link: u8) -> i32;
-    pub fn mtpbank_deactivate(end: &mut End, link: u8) -> i32;
-    pub fn mtpbank_hear(
+    fn mtpbank_open(set: &Set, timers: &Timers, times: &Times, end: &mut *mut c_void) -> i32;
+    fn mtpbank_close(end: Closing);
+    fn mtpbank_command(end: &mut End, link: u8, number: u8) -> i32;
+    fn mtpbank_activate(end: &mut End, link: u8) -> i32;
+    fn mtpbank_deactivate(end: &mut End, link: u8) -> i32;
+    fn mtpbank_hear(
         end: &mut End,
         link: u8,
         octets: *const u8,
@@ -99,9 +120,92 @@ extern "C" {
         room: usize,
         heard: &mut Heard,
     ) -> i32;
-    pub fn mtpbank_look(end: &mut End, link: u8, look: &mut Look) -> i32;
-    pub fn mtpbank_offer(end: &mut End, user: u16, message: *const u8, length: usize, number: &mut u64) -> i32;
-    pub fn mtpbank_take(end: &mut End, user: u16, put: *mut u8, room: usize, length: &mut usize) -> i32;
-    pub fn mtpbank_find(end: &mut End, user: u16, number: u64, found: &mut Found) -> i32;
-    pub fn mtpbank_checkpoint(end: &mut End) -> i32;
+    fn mtpbank_look(end: &mut End, link: u8, look: &mut Look) -> i32;
+    fn mtpbank_offer(end: &mut End, user: u16, message: *const u8, length: usize, number: &mut u64) -> i32;
+    fn mtpbank_take(end: &mut End, user: u16, put: *mut u8, room: usize, length: &mut usize) -> i32;
+    fn mtpbank_find(end: &mut End, user: u16, number: u64, found: &mut Found) -> i32;
+    fn mtpbank_checkpoint(end: &mut End) -> i32;
+}
+
+#[cfg(feature = "texts")]
+extern "C" {
+    fn mtpbank_text(
+        subcommand: u8,
+        input: *const u8,
+        length: usize,
+        printed: *mut u8,
+        printed_room: usize,
+        told: *mut u8,
+        told_room: usize,
+        lengths: &mut Lengths,
+    ) -> i32;
+}
+
+/// An end; or the code of what is wrong.
+pub fn open(set: &Set, timers: &Timers, times: &Times) -> Result<End, i32> {
+    let mut at = std::ptr::null_mut();
+    match unsafe { mtpbank_open(set, timers, times, &mut at) } {
+        0 => Ok(End { at }),
+        code => Err(code),
+    }
+}
+
+impl Drop for End {
+    fn drop(&mut self) {
+        unsafe { mtpbank_close(Closing { at: self.at }) }
+    }
+}
+
+pub fn command(end: &mut End, link: u8, number: u8) -> i32 {
+    unsafe { mtpbank_command(end, link, number) }
+}
+
+pub fn activate(end: &mut End, link: u8) -> i32 {
+    unsafe { mtpbank_activate(end, link) }
+}
+
+pub fn deactivate(end: &mut End, link: u8) -> i32 {
+    unsafe { mtpbank_deactivate(end, link) }
+}
+
+pub fn hear(end: &mut End, link: u8, octets: &[u8], put: &mut [u8], heard: &mut Heard) -> i32 {
+    unsafe { mtpbank_hear(end, link, octets.as_ptr(), octets.len(), put.as_mut_ptr(), put.len(), heard) }
+}
+
+pub fn look(end: &mut End, link: u8, look: &mut Look) -> i32 {
+    unsafe { mtpbank_look(end, link, look) }
+}
+
+pub fn offer(end: &mut End, user: u16, message: &[u8], number: &mut u64) -> i32 {
+    unsafe { mtpbank_offer(end, user, message.as_ptr(), message.len(), number) }
+}
+
+pub fn take(end: &mut End, user: u16, put: &mut [u8], length: &mut usize) -> i32 {
+    unsafe { mtpbank_take(end, user, put.as_mut_ptr(), put.len(), length) }
+}
+
+pub fn find(end: &mut End, user: u16, number: u64, found: &mut Found) -> i32 {
+    unsafe { mtpbank_find(end, user, number, found) }
+}
+
+pub fn checkpoint(end: &mut End) -> i32 {
+    unsafe { mtpbank_checkpoint(end) }
+}
+
+#[cfg(feature = "texts")]
+pub fn text(subcommand: u8, input: &[u8], printed: &mut [u8], told: &mut [u8]) -> (i32, Lengths) {
+    let mut lengths = Lengths::default();
+    let code = unsafe {
+        mtpbank_text(
+            subcommand,
+            input.as_ptr(),
+            input.len(),
+            printed.as_mut_ptr(),
+            printed.len(),
+            told.as_mut_ptr(),
+            told.len(),
+            &mut lengths,
+        )
+    };
+    (code, lengths)
 }

@@ -77,3 +77,17 @@ fn what_is_not_there_is_refused() -> Result<(), Code> {
     assert!(End::open(&Set::basic(17, 1, 2), &Timers::USUAL, &Times::USUAL).is_err());
     Ok(())
 }
+
+#[test]
+fn an_end_goes_to_another_thread() -> Result<(), Code> {
+    let mut end = End::open(&Set::basic(1, 1, 2), &Timers::USUAL, &Times::USUAL)?;
+    end.activate(0)?;
+    let moved = std::thread::spawn(move || end.hear(0, &[0x7e; 8], &mut [0; 8]).map(|_| end)).join();
+    assert_eq!(moved.expect("a thread that ended")?.look(0)?.turns, 8);
+    Ok(())
+}
+
+#[test]
+fn a_code_has_words() {
+    assert_eq!(Code::NO_ROOM.to_string(), "mtpbank answered 50: a buffer is too small");
+}

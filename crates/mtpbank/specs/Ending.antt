@@ -15,12 +15,12 @@ use Rattle.run_text.specs.declared.verdict.Missing.{Missing}
 use Rattle.run_text.specs.declared.fault.RunFault.{RunFault}
 use Rattle.run_text.specs.Asked.{IsFaultOfAsked, RunsAsked}
 use Rattle.run_text.specs.Running.{FailsByWrites}
-use Rattle.mtpbank.specs.declared.running.TextFault.{TextFault}
+use Rattle.text_calls.specs.declared.running.TextFault.{TextFault}
 use Rattle.mtpbank.specs.declared.ending.Ended.{Ended}
 use Rattle.mtpbank.specs.declared.ending.Ended.TheVariants.{Well, Told, Untold}
 use Rattle.mtpbank.specs.declared.ending.RunTold.{RunTold}
 use Rattle.mtpbank.specs.declared.ending.RunTold.TheVariants.{Missing as IsMissing, Fault as IsAtFault}
-use Rattle.mtpbank.specs.Running.{IsTextOf, longest_of}
+use Rattle.text_calls.specs.Running.{IsTextOf, longest_of}
 
 -- a fault is told, unless nobody reads the output any more
 abbrev pub end_of : {T : Type 0} → Result (Unit {0}) (Fault T) → Bool → Ended (Fault T)

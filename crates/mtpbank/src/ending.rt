@@ -1,9 +1,8 @@
 //! How what was asked for ends: well, or with a fault, which is told unless nobody reads any more what is printed.
 ghost use Rattle.std.specs.Prelude.{◌≡◌, IfSome};
 ghost use Rattle.mtpbank.specs.Ending.{EndsRunning, EndsText, end_of, run_end_of};
-ghost use Rattle.mtpbank.specs.Running.{ReadsInput};
+ghost use Rattle.text_calls.specs.Running.{ReadsInput};
 
-use super::running::{TextFault, run};
 use mtpbank_words::{RunWords, Words};
 use run_text::{Missing, RunFault};
 use std::alloc::Global;
@@ -12,6 +11,7 @@ use std::sync::Wait;
 use std::thread::Threads;
 use std::time::Clock;
 use text_base::{Fault, Sink, Source, Writer};
+use text_calls::{TextFault, run};
 use thiserror::Error;
 
 /// How it ended.

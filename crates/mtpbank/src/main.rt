@@ -15,10 +15,9 @@ ghost use Rattle.std.specs.Vec.Iter.{into_iter_items};
 ghost use Rattle.clap.specs.Values.{kind_of};
 ghost use Rattle.mtpbank_words.specs.CommandLine.{IsAsked, Refuses, words_in};
 ghost use Rattle.mtpbank.specs.Ending.{EndsAsAsked, EndsReading, EndsRun, EndsSaid, EndsWrong, IsDone, IsShown, Tells, status_of};
-ghost use Rattle.mtpbank.specs.Running.{ReadsInput};
+ghost use Rattle.text_calls.specs.Running.{ReadsInput};
 
 mod ending;
-mod running;
 mod telling;
 
 use ending::{Ended, Page, carry_out, carry_out_run};

@@ -50,3 +50,11 @@ impl End {
         self.into_parts().into_box()
     }
 }
+
+/// A law: an end may be called by one thread and then by another one, since the compiler takes it for `Send`.
+fn may_go_to_another_thread() {
+    may_go::<ManagedBench>();
+}
+
+/// Takes any type that may go from one thread to another one.
+fn may_go<T: Send>() {}

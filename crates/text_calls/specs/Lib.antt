@@ -1,0 +1,3 @@
+pub mod Running
+pub mod Numbers
+pub mod Telling
