@@ -76,8 +76,8 @@ line opens the end, and each other asks for one thing, mostly of link L:
   noanswer, timed, restore, redeclare, backtimeout, test
                           what Q.704's timers tell the set
   activate, deactivate    level 3 starts the link, restores it, changes it back
-  look, history           how the link stands; what the set was asked
-  checkpoint, forget      that goes out, once or behind each so many turns
+  look, counts, events    how the link stands; what waits; where streams run
+  history, checkpoint, forget     what the set was asked; that goes out
 An octet in and an octet out is a turn, and a turn is all the time there is.
 `mtpbank terminal --help` says how each line is written, what it prints, and how
 a line is driven. Try `mtpbank terminal < examples/terminal/start.terminal`.";
@@ -122,30 +122,44 @@ Each further line prints events and then its answer, so whoever drives the end r
   deactivate L        so no more, and the terminal stops. Both: refused 9 where it's so already
   look L              look L WORD phase=P turns=T sent=S good=G bad=B sixteen=X cause=C: how the link stands; its phase
                       at the set (settled, up or left); turns and units from the beginning on; the last cause, or 0
+  counts              counts waiting=N,.. unacked=N,.. held=N,.. unsent=N,.. parked=N back=N inbox=N entries=N all=N: by
+                      link, from 0, how many messages wait for it, were sent on it and aren't acknowledged, and are held
+                      for it, orders among them; by stream, 0 to 15, how many aren't sent; those for which there is no
+                      link, and that wait for a changeback; messages for users that weren't taken; and entries of the
+                      history since the last checkpoint, and of all
   checkpoint [quiet]  what is finished leaves the set: the entries of its history that go, checkpoint, and done; with
                       quiet done alone
   forget N [told]     from now on a checkpoint behind each N turns of all links together, 0 to 2^32-1; 0: none any more.
                       done; nothing is printed for such a checkpoint, or with told the entries that go, and checkpoint
   history             the entries of its history since the last checkpoint, and done
+  events on, events off
+                      from now on it's told where streams run, where that changes; or no more: done
 What stands on a line is bits, of each octet the lowest first. A turn is taken for each eight, and fewer than eight wait
 for the next line of this link. The events; T counts the link's turns from 1:
   message L turn=T    a message for users was heard: `take` gives it
-  link L WORD turn=T  the link stands otherwise: out (of service, with cause=C), unaligned, aligned, proving, ready
-                      (aligned, and no FISU heard yet), waiting (in service; the set refuses it, since its last life
-                      isn't settled), up, paused (the far end has a processor outage), or outage (this end has one)
+  link L WORD turn=T  the link stands otherwise: out (of service, with cause=C, and by=B where it was stopped, unless a
+                      command said so), unaligned, aligned, proving, ready (aligned, and no FISU heard yet), waiting
+                      (in service; the set refuses it, since its last life isn't settled), up, paused (the far end has
+                      a processor outage), or outage (this end has one)
   level3 L WHAT [ANSWER] turn=T
                       behind this turn level 3 asked so of link L: start, emergency or stop, which its terminal obeys in
                       the next one, or an event of the set, with the answer, done or refused N
+  stream S link L turn=T
+                      what is offered in stream S, 0 to 15, goes over link L from now on; with events on alone. So too
+                      stream S back L: it waits to go back to L (Q.704 6), and stream S nowhere: there is no link for it
   sent L UNIT [xN]    this unit was appended to what goes out, N times in a row; with hear, flags and bits alone
-In a turn messages come first, then the WORD, then what level 3 asked, then the unit; and behind the turn what goes with
-a checkpoint that forget told, before the next turn of the line. So with told lines that begin with user, terminal or
-checkpoint are events too. The causes: 1 error rate, 2 BSN,
-3 FIB, 4 T1, 5 T6, 6 T7, 7 a status that was heard, 8 alignment not possible, 9 stop, or a changeover order about a
-link that isn't up yet: the far end was up there, and has left it. Last comes `end a ..`, as `mtpbank play` prints it.
+In a turn messages come first, then the WORD, then what level 3 asked, then the unit; and behind the turn where streams
+run, and what goes with a checkpoint that forget told, before the next turn of the line. So with told lines that begin
+with user, terminal or checkpoint are events too. The causes: 1 error rate, 2 BSN, 3 FIB, 4 T1, 5 T6, 6 T7, 7 a status
+that was heard, 8 alignment not possible, 9 stop: by=level3 level 3 said so; by=order the set has left the link, since
+it heard a changeover order about it; by=late the order was about a link that isn't up yet: the far end was up there,
+and has left it. Last comes `end a ..`, as `mtpbank play` prints it.
 The set line and the lines of history and checkpoints one behind another are the history that `mtpbank audit` reads,
 where no checkpoint was quiet, and each of forget told.
 The SLC of an order is the link's number. To close an end so that the far end hears that its links are out of service
 (SIOS) write stop L for each link, then two blocks of octets, then end the input.
+A driver may write lines ahead of their answers while a pipe holds what isn't answered, 65,536 octets on Linux: one that
+writes more must read meanwhile, or both wait for ever.
 To drive a real line read a block of octets from the timeslot, write it as octets, and write the answer to the timeslot:
 the line's clock keeps the pace. Begin with two blocks of flags; 64 to 160 octets are usual. Signal units go lowest bit
 first and PCM timeslots highest bit first, so a card that gives octets as G.711 has them needs the bits of each octet

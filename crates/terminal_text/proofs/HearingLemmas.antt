@@ -23,11 +23,16 @@ use Rattle.terminal_text.proofs.RowLemmas.{shows_more, shows_nothing}
 use Rattle.terminal_text.specs.Answers.{AsManyGoOut, Exchanges, HearsLine, one_by_one, unit_bits}
 use Rattle.terminal_text.specs.Hearing.{Exchanging, Hears}
 use Rattle.terminal_text.specs.Rows.{Shows, left_of}
-use Rattle.terminal_text.specs.Forgetting.{HearsEach, HearsOne, IsForgotten, forgotten, gone_behind, gone_by, is_due, shown_of}
+use Rattle.terminal_text.specs.Forgetting.{HearsEach, HearsOne, IsOver, behind_turn, forgotten, gone_behind, gone_by, is_due, late_before, lines_behind, retold, shown_after, shown_of, stopper_in}
+use Rattle.terminal_text.specs.Moving.{moved}
+use Rattle.terminal_text.specs.Stopping.{stopper_of, watch_of, watched}
+use Rattle.term_managed.specs.declared.turn.Deed.{Deed}
+use Rattle.terminal_text.specs.declared.stopping.Stopper.{Stopper}
 use Rattle.terminal_text.specs.Showing.{Shown, gone, over, shown, turned, turns_among, without_unit}
 use Rattle.terminal_text.specs.declared.forgetting.ForgettingBench.{ForgettingBench}
 use Rattle.terminal_text.specs.declared.hearing.Hearing.{Hearing}
 use Rattle.terminal_text.specs.declared.rows.Rows.{Rows}
+use Rattle.terminal_text.specs.declared.stopping.Watch.{Watch}
 use Rattle.std.specs.Prelude.{codes, decimal}
 
 -- Pieces behind pieces.
@@ -52,17 +57,57 @@ one_is_each : (link : ℕ) (bits : List Bool) (old : ForgettingBench) (items : L
 one_is_each link bits old items new one = (new, items, [], one, (refl, refl), sym (append-nil items))
 
 -- a turn, and what is behind it
+pub record IsBehind (link : ℕ) (old : ForgettingBench) (turn : TurnAndDeeds) (stopper : Stopper) (between : ForgettingBench) : Type 0 where
+  pub stopper_is : stopper ≡ stopper_in link old
+  pub plan_is : between.plan ≡ old.plan
+  pub streams_are : between.streams ≡ old.streams
+  pub watches_are : between.watches ≡ watched link (late_before link old) turn.deeds old.watches
+
+driven_by : ManagedState → Forgetting → List Watch → Option (List ℕ) → ForgettingBench
+driven_by managed plan watches streams = record { managed = managed; plan = plan; watches = watches; streams = streams }
+
+is_behind : (link : ℕ) (old between : ForgettingBench) (turn : TurnAndDeeds) (unit : Option SignalUnit) (stopper : Stopper)
+    → IsBehind link old turn stopper between
+    → between ≡ behind_turn link old (record { turn = turn; unit = unit }) between.managed
+unfolding driven_by
+is_behind link old between turn unit stopper behind =
+    ap (λ (p : Forgetting). driven_by between.managed p between.watches between.streams) behind.plan_is
+    ∙ ap (λ (w : List Watch). driven_by between.managed old.plan w between.streams) behind.watches_are
+    ∙ ap (λ (t : Option (List ℕ)). driven_by between.managed old.plan (watched link (late_before link old) turn.deeds old.watches) t)
+    behind.streams_are
+
+-- noted by so many late orders before it, and what level 3 asked behind it
+pub behind_noted : (link late : ℕ) (old : ForgettingBench) (managed : ManagedState) (turn : TurnAndDeeds) (deeds : List Deed)
+    (stopper : Stopper) (watches : List Watch) → late ≡ late_before link old → deeds ≡ turn.deeds
+    → stopper ≡ stopper_of late (watch_of link old.watches) → watches ≡ watched link late deeds old.watches
+    → IsBehind link old turn stopper (record { managed = managed; plan = old.plan; watches = watches; streams = old.streams })
+behind_noted link late old managed turn deeds stopper watches counted asked stopped noted = record {
+  stopper_is = stopped ∙ ap (λ (n : ℕ). stopper_of n (watch_of link old.watches)) counted;
+  plan_is = refl;
+  streams_are = refl;
+  watches_are = noted ∙ ap (λ (n : ℕ). watched link n deeds old.watches) counted
+      ∙ ap (λ (ds : List Deed). watched link (late_before link old) ds old.watches) asked;
+}
+
+-- shown by its stopper
+shown_by : (link : ℕ) (old : ForgettingBench) (stopper : Stopper) (heard : HeardTurn) (was now : Rows) → stopper ≡ stopper_in link old
+    → Shows was (turned stopper heard ∷ []) now → Shows was (turned (stopper_in link old) heard ∷ []) now
+shown_by link old stopper heard was now is shows = subst (λ (s : Stopper). Shows was (turned s heard ∷ []) now) is shows
+
 turn_is_one : (link : ℕ) (bits : List Bool) (old between new : ForgettingBench) (turn : TurnAndDeeds) (unit : Option SignalUnit)
-    → HearsTurn link bits old.managed turn unit between.managed → between.plan ≡ old.plan → new ≡ forgotten between
-    → HearsOne link bits old (turned (record { turn = turn; unit = unit }) ∷ gone_behind between) new
-turn_is_one link bits old between new turn unit hears plan is = record {
+    (stopper : Stopper) → HearsTurn link bits old.managed turn unit between.managed → IsBehind link old turn stopper between
+    → new ≡ forgotten (retold between)
+    → HearsOne link bits old (turned (stopper_in link old) (record { turn = turn; unit = unit }) ∷ shown_after turn.turn.number between) new
+turn_is_one link bits old between new turn unit stopper hears behind is = record {
   one = Some (record { turn = turn; unit = unit });
   between = between.managed;
   hears = hears;
-  items_are = ap (λ (p : Forgetting). turned (record { turn = turn; unit = unit })
-      ∷ gone_behind (record { managed = between.managed; plan = p })) plan;
-  new_is = is ∙ ap (λ (p : Forgetting). forgotten (record { managed = between.managed; plan = p })) plan;
+  items_are = ap (λ (s : ForgettingBench). turned (stopper_in link old) (record { turn = turn; unit = unit }) ∷ shown_after turn.turn.number s) so;
+  new_is = is ∙ ap (λ (s : ForgettingBench). forgotten (retold s)) so;
 }
+  where
+    so : between ≡ behind_turn link old (record { turn = turn; unit = unit }) between.managed
+    so = is_behind link old between turn unit stopper behind
 
 -- what a checkpoint leaves to show has no turn, and no unit
 none_by : (b : Bool) (history : List Entry) → turns_among (gone_by b history) ≡ []
@@ -73,15 +118,28 @@ same_by : (b : Bool) (history : List Entry) → map without_unit (gone_by b hist
 same_by true history = refl
 same_by false history = refl
 
-none_behind : (s : ForgettingBench) → turns_among (gone_behind s) ≡ []
-none_behind s = none_by (is_due s.plan && s.plan.told) s.managed.bench.set.history
+none_in : (lines : List ℕ) (items : List Shown) → turns_among items ≡ [] → turns_among (lines_behind lines ++ items) ≡ []
+none_in [] items none = none
+none_in (c ∷ cs) items none = none
 
-same_behind : (s : ForgettingBench) → map without_unit (gone_behind s) ≡ gone_behind s
-same_behind s = same_by (is_due s.plan && s.plan.told) s.managed.bench.set.history
+same_in : (lines : List ℕ) (items : List Shown) → map without_unit items ≡ items
+    → map without_unit (lines_behind lines ++ items) ≡ lines_behind lines ++ items
+same_in [] items same = same
+same_in (c ∷ cs) items same = ap (λ (more : List Shown). gone (c ∷ cs) ∷ more) same
+
+none_behind : (turn : ℕ) (s : ForgettingBench) → turns_among (shown_after turn s) ≡ []
+none_behind turn s =
+    none_in (moved turn s.streams s.managed.bench.set.state) (gone_behind (retold s))
+    (none_by (is_due s.plan && s.plan.told) s.managed.bench.set.history)
+
+same_behind : (turn : ℕ) (s : ForgettingBench) → map without_unit (shown_after turn s) ≡ shown_after turn s
+same_behind turn s =
+    same_in (moved turn s.streams s.managed.bench.set.state) (gone_behind (retold s))
+    (same_by (is_due s.plan && s.plan.told) s.managed.bench.set.history)
 
 turns_more : (a b : List Shown) → turns_among (a ++ b) ≡ turns_among a ++ turns_among b
 turns_more [] b = refl
-turns_more (turned heard ∷ a) b = ap (λ (hs : List HeardTurn). heard ∷ hs) (turns_more a b)
+turns_more (turned stopper heard ∷ a) b = ap (λ (hs : List HeardTurn). heard ∷ hs) (turns_more a b)
 turns_more (gone lines ∷ a) b = turns_more a b
 
 abbrev puts : List HeardTurn → List ℕ
@@ -113,16 +171,19 @@ exchanging_more link xs ys old mid new a b c p q r f g = record {
 }
 
 pub octet_exchanged : (link octet : ℕ) (old between new : ForgettingBench) (rows mid rows' : Rows) (put put' : List ℕ) (turn : TurnAndDeeds)
-    (unit : Option SignalUnit) → HearsTurn link (bits_of 8 octet) old.managed turn unit between.managed → between.plan ≡ old.plan
-    → Shows rows (turned (record { turn = turn; unit = None }) ∷ []) mid → put' ≡ put ++ turn.turn.put ∷ []
-    → length between.managed.bench.links ≡ length old.managed.bench.links → IsForgotten between new mid rows'
+    (unit : Option SignalUnit) (stopper : Stopper) → HearsTurn link (bits_of 8 octet) old.managed turn unit between.managed
+    → IsBehind link old turn stopper between
+    → Shows rows (turned stopper (record { turn = turn; unit = None }) ∷ []) mid → put' ≡ put ++ turn.turn.put ∷ []
+    → length between.managed.bench.links ≡ length old.managed.bench.links → IsOver turn.turn.number between new mid rows'
     → Exchanging link (bits_of 8 octet ∷ []) old new rows rows' put put'
-octet_exchanged link octet old between new rows mid rows' put put' turn unit hears plan shows is links forgets = record {
-  items = turned (record { turn = turn; unit = unit }) ∷ gone_behind between;
-  hears = one_is_each link (bits_of 8 octet) old _ new (turn_is_one link (bits_of 8 octet) old between new turn unit hears plan forgets.new_is);
-  shows = subst (λ (items : List Shown). Shows rows (turned (record { turn = turn; unit = None }) ∷ items) rows') (sym (same_behind between))
-      (shows_more rows mid rows' (turned (record { turn = turn; unit = None }) ∷ []) (gone_behind between) shows forgets.shows);
-  put_is = is ∙ ap (λ (hs : List HeardTurn). put ++ (turn.turn.put ∷ puts hs)) (sym (none_behind between));
+octet_exchanged link octet old between new rows mid rows' put put' turn unit stopper hears behind shows is links forgets = record {
+  items = turned (stopper_in link old) (record { turn = turn; unit = unit }) ∷ shown_after turn.turn.number between;
+  hears = one_is_each link (bits_of 8 octet) old _ new (turn_is_one link (bits_of 8 octet) old between new turn unit stopper hears behind forgets.new_is);
+  shows = subst (λ (items : List Shown). Shows rows (turned (stopper_in link old) (record { turn = turn; unit = None }) ∷ items) rows')
+      (sym (same_behind turn.turn.number between))
+      (shows_more rows mid rows' (turned (stopper_in link old) (record { turn = turn; unit = None }) ∷ []) (shown_after turn.turn.number between)
+      (shown_by link old stopper (record { turn = turn; unit = None }) rows mid behind.stopper_is shows) forgets.shows);
+  put_is = is ∙ ap (λ (hs : List HeardTurn). put ++ (turn.turn.put ∷ puts hs)) (sym (none_behind turn.turn.number between));
   links = forgets.links ∙ links;
 }
 
@@ -154,35 +215,37 @@ hears_more link xs ys old mid new a b c f g = record {
 }
 
 pub bit_waits : (link : ℕ) (bit : Bool) (old new : ForgettingBench) (was now : Hearing) → Waits link (bit ∷ []) old.managed new.managed
-    → new.plan ≡ old.plan → now.rows ≡ was.rows → now.turns ≡ was.turns
+    → new.plan ≡ old.plan → new.watches ≡ old.watches → new.streams ≡ old.streams → now.rows ≡ was.rows → now.turns ≡ was.turns
     → length new.managed.bench.links ≡ length old.managed.bench.links → Hears link ((bit ∷ []) ∷ []) old new was now
-bit_waits link bit old new was now waits plan rows turns links = record {
+unfolding driven_by
+bit_waits link bit old new was now waits plan watches streams rows turns links = record {
   items = [];
   hears = one_is_each link (bit ∷ []) old [] new (record {
     one = None;
     between = new.managed;
     hears = waits;
     items_are = refl;
-    new_is = ap (λ (p : Forgetting). driven p) plan;
+    new_is = ap (λ (p : Forgetting). driven_by new.managed p new.watches new.streams) plan
+        ∙ ap (λ (w : List Watch). driven_by new.managed old.plan w new.streams) watches
+        ∙ ap (λ (t : Option (List ℕ)). driven_by new.managed old.plan old.watches t) streams;
   });
   shows = subst (λ (r : Rows). Shows was.rows [] r) (sym rows) (shows_nothing was.rows);
   turns_are = omega (arith, turns);
   links = links;
 }
-  where
-    driven : Forgetting → ForgettingBench
-    driven p = record { managed = new.managed; plan = p }
 
 pub bit_turns : (link : ℕ) (bit : Bool) (old between new : ForgettingBench) (was now : Hearing) (mid : Rows) (turn : TurnAndDeeds)
-    (unit : Option SignalUnit) → HearsTurn link (bit ∷ []) old.managed turn unit between.managed → between.plan ≡ old.plan
-    → Shows was.rows (turned (record { turn = turn; unit = unit }) ∷ []) mid → now.turns ≡ was.turns + 1
-    → length between.managed.bench.links ≡ length old.managed.bench.links → IsForgotten between new mid now.rows
+    (unit : Option SignalUnit) (stopper : Stopper) → HearsTurn link (bit ∷ []) old.managed turn unit between.managed
+    → IsBehind link old turn stopper between
+    → Shows was.rows (turned stopper (record { turn = turn; unit = unit }) ∷ []) mid → now.turns ≡ was.turns + 1
+    → length between.managed.bench.links ≡ length old.managed.bench.links → IsOver turn.turn.number between new mid now.rows
     → Hears link ((bit ∷ []) ∷ []) old new was now
-bit_turns link bit old between new was now mid turn unit hears plan shows turns links forgets = record {
-  items = turned (record { turn = turn; unit = unit }) ∷ gone_behind between;
-  hears = one_is_each link (bit ∷ []) old _ new (turn_is_one link (bit ∷ []) old between new turn unit hears plan forgets.new_is);
-  shows = shows_more was.rows mid now.rows (turned (record { turn = turn; unit = unit }) ∷ []) (gone_behind between) shows forgets.shows;
-  turns_are = turns ∙ ap (λ (hs : List HeardTurn). was.turns + suc (length hs)) (sym (none_behind between));
+bit_turns link bit old between new was now mid turn unit stopper hears behind shows turns links forgets = record {
+  items = turned (stopper_in link old) (record { turn = turn; unit = unit }) ∷ shown_after turn.turn.number between;
+  hears = one_is_each link (bit ∷ []) old _ new (turn_is_one link (bit ∷ []) old between new turn unit stopper hears behind forgets.new_is);
+  shows = shows_more was.rows mid now.rows (turned (stopper_in link old) (record { turn = turn; unit = unit }) ∷ []) (shown_after turn.turn.number between)
+      (shown_by link old stopper (record { turn = turn; unit = unit }) was.rows mid behind.stopper_is shows) forgets.shows;
+  turns_are = turns ∙ ap (λ (hs : List HeardTurn). was.turns + suc (length hs)) (sym (none_behind turn.turn.number between));
   links = forgets.links ∙ links;
 }
 
@@ -286,13 +349,14 @@ bit_some found link bit old new turn tap tap' is hears =
 
 -- a turn without a unit, and with one
 pub bit_quiet : (link : ℕ) (bit : Bool) (old between new : ForgettingBench) (was now : Hearing) (mid : Rows) (turn : TurnAndDeeds)
-    (tap' : LastUnit) → BringsTurn link bit old.managed between.managed turn tap' → between.plan ≡ old.plan → turn.turn.sent ≡ 0
-    → Shows was.rows (turned (record { turn = turn; unit = None }) ∷ []) mid → now.turns ≡ was.turns + 1
-    → length between.managed.bench.links ≡ length old.managed.bench.links → IsForgotten between new mid now.rows
+    (tap' : LastUnit) (stopper : Stopper) → BringsTurn link bit old.managed between.managed turn tap'
+    → IsBehind link old turn stopper between → turn.turn.sent ≡ 0
+    → Shows was.rows (turned stopper (record { turn = turn; unit = None }) ∷ []) mid → now.turns ≡ was.turns + 1
+    → length between.managed.bench.links ≡ length old.managed.bench.links → IsOver turn.turn.number between new mid now.rows
     → Hears link ((bit ∷ []) ∷ []) old new was now
-bit_quiet link bit old between new was now mid turn tap' brings plan none shows turns links forgets =
-    bit_turns link bit old between new was now mid turn brings.unit brings.hears plan
-    (subst (λ (u : Option SignalUnit). Shows was.rows (turned (record { turn = turn; unit = u }) ∷ []) mid)
+bit_quiet link bit old between new was now mid turn tap' stopper brings behind none shows turns links forgets =
+    bit_turns link bit old between new was now mid turn brings.unit stopper brings.hears behind
+    (subst (λ (u : Option SignalUnit). Shows was.rows (turned stopper (record { turn = turn; unit = u }) ∷ []) mid)
     (sym (none_sent turn.turn.sent brings.unit brings.hears.hears.turns.takes.sent_is none)) shows)
     turns links forgets
 
@@ -302,13 +366,13 @@ same_as_told None shown sent is some told = absurd (omega (arith, is, some))
 same_as_told (Some unit) shown sent is some told = told unit refl
 
 pub bit_sent : (link : ℕ) (bit : Bool) (old between new : ForgettingBench) (was now : Hearing) (mid : Rows) (turn : TurnAndDeeds)
-    (tap' : LastUnit) (unit : Option SignalUnit) → BringsTurn link bit old.managed between.managed turn tap' → between.plan ≡ old.plan
-    → 0 < turn.turn.sent → unit ≡ tap'.unit → Shows was.rows (turned (record { turn = turn; unit = unit }) ∷ []) mid
+    (tap' : LastUnit) (unit : Option SignalUnit) (stopper : Stopper) → BringsTurn link bit old.managed between.managed turn tap'
+    → IsBehind link old turn stopper between → 0 < turn.turn.sent → unit ≡ tap'.unit → Shows was.rows (turned stopper (record { turn = turn; unit = unit }) ∷ []) mid
     → now.turns ≡ was.turns + 1 → length between.managed.bench.links ≡ length old.managed.bench.links
-    → IsForgotten between new mid now.rows → Hears link ((bit ∷ []) ∷ []) old new was now
-bit_sent link bit old between new was now mid turn tap' unit brings plan some is shows turns links forgets =
-    bit_turns link bit old between new was now mid turn brings.unit brings.hears plan
-    (subst (λ (u : Option SignalUnit). Shows was.rows (turned (record { turn = turn; unit = u }) ∷ []) mid)
+    → IsOver turn.turn.number between new mid now.rows → Hears link ((bit ∷ []) ∷ []) old new was now
+bit_sent link bit old between new was now mid turn tap' unit stopper brings behind some is shows turns links forgets =
+    bit_turns link bit old between new was now mid turn brings.unit stopper brings.hears behind
+    (subst (λ (u : Option SignalUnit). Shows was.rows (turned stopper (record { turn = turn; unit = u }) ∷ []) mid)
     (same_as_told brings.unit unit turn.turn.sent brings.hears.hears.turns.takes.sent_is some (λ u h. is ∙ brings.told u h)) shows)
     turns links forgets
 
@@ -319,12 +383,12 @@ one_turn : (link octet : ℕ) (old : ForgettingBench) (items : List Shown) (new 
 one_turn link octet old items new one = by one.one one.hears one.items_are
   where
     by : (found : Option HeardTurn) → HearsPiece link (bits_of 8 octet) old.managed found one.between
-        → items ≡ shown_of found (record { managed = one.between; plan = old.plan }) → length (turns_among items) ≡ 1
+        → items ≡ shown_of link old found one.between → length (turns_among items) ≡ 1
     by None waits is =
         absurd (omega (arith, waits.waits.few, length-append waits.waits.was.waiting (bits_of 8 octet), length-bits_of 8 octet))
     by (Some heard) hears is =
         ap (λ (xs : List Shown). length (turns_among xs)) is
-        ∙ ap (λ (hs : List HeardTurn). suc (length hs)) (none_behind (record { managed = one.between; plan = old.plan }))
+        ∙ ap (λ (hs : List HeardTurn). suc (length hs)) (none_behind heard.turn.turn.number (behind_turn link old heard one.between))
 
 turn_each : (link : ℕ) (octets : List ℕ) (old new : ForgettingBench) (items : List Shown)
     → HearsEach link (map (bits_of 8) octets) old items new → length (turns_among items) ≡ length octets

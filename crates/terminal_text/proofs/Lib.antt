@@ -1,4 +1,5 @@
 pub mod RowLemmas
+pub mod CountingLemmas
 pub mod ForgettingLemmas
 pub mod Standing
 pub mod HearingLemmas

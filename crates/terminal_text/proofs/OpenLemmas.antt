@@ -1,5 +1,5 @@
 -- The line that opens an end.
-use Rattle.std.proofs.Common.{refl, sym, ap, subst, arith, ◌≡◌, ◌∙◌, ◌<◌, ◌≤◌, nat_lt, ℕ, true, List, [], append-nil, Option, Some, Result, Ok, Err, MatchResult}
+use Rattle.std.proofs.Common.{refl, sym, ap, subst, arith, ◌≡◌, ◌∙◌, ◌<◌, ◌≤◌, nat_lt, ℕ, Bool, true, false, ◌++◌, List, [], append-nil, Option, Some, Result, Ok, Err, MatchResult}
 use Rattle.std.proofs.lemmas.Bool.Decides.{nat_tests}
 use Rattle.std.specs.Option.{option_map}
 use Rattle.std.specs.Result.{result_map_both, result_ok}
@@ -27,10 +27,12 @@ use Rattle.text_forms.specs.declared.early.Early.{Early}
 use Rattle.terminal_text.specs.Answers.{asker, is_below, link_of_event}
 use Rattle.terminal_text.specs.Forgetting.{unasked}
 use Rattle.terminal_text.specs.declared.forgetting.ForgettingBench.{ForgettingBench}
-use Rattle.terminal_text.specs.Text.{IsOpenedAnew, MayFollow, MayOpen, MayOpenAs, MayRead, MayTime, Opens, TerminalOutcome, opened_bench, opened_end, settings_of, timed, told_lengths, told_times, usual, usual_times}
+use Rattle.terminal_text.specs.Text.{IsOpenedAnew, MayDoAt, MayFollow, MayOpen, MayOpenAs, MayRead, MayTime, Opens, TerminalOutcome, opened_bench, opened_end, settings_of, timed, told_lengths, told_times, usual, usual_times}
 use Rattle.terminal_text.specs.declared.fault.TerminalFault.{TerminalFault}
 use Rattle.terminal_text.specs.declared.open_end.End.{End as EndState}
-use Rattle.text_lines.specs.Talking.{IsCarriedOut, MayTell}
+use Rattle.text_lines.specs.Talking.{IsCarriedOut, MayDo as MayPrint, MayTell}
+use Rattle.terminal_text.specs.Answers.{Does}
+use Rattle.text_forms.specs.declared.asked.Asked.{Asked}
 use Rattle.text_lines.specs.Lines.{prints}
 
 same_settings : (a b : Settings) → a.set ≡ b.set → a.links ≡ b.links → a.method ≡ b.method → a.profile ≡ b.profile → a.sio ≡ b.sio
@@ -138,6 +140,18 @@ times_told (Ok done) n early old new line out times told made = record {
 }
 times_told (Err stop) n early old new line out times told made =
     (subst (λ (s : Stop TerminalFault). MayTell s (MayTime n line (told_times early line) old)) (sym made) tt, refl)
+
+-- What is asked for is done, of a link that is there.
+
+pub asked_done : (there : Bool) (n : ℕ) (asked : Asked) (old new : ForgettingBench) (out after printed : List ℕ) → there ≡ true
+    → after ≡ out ++ printed → Does asked old printed new
+    → MayPrint (MayDoAt there n asked old) out after (Some (record { bench = new; early = Early.Over }))
+asked_done true n asked old new out after printed is added does = record {
+  printed = printed;
+  added = added;
+  may = record { printed = printed; new = new; does = does; outcome_is = refl };
+}
+asked_done false n asked old new out after printed is added does = absurd (cc is)
 
 -- Of which terminal an event is.
 

@@ -6,10 +6,12 @@ use Rattle.term_managed.specs.Turns.{HeardTurn, TurnAndDeeds}
 use Rattle.term_managed.specs.declared.turn.Deed.{Deed}
 use Rattle.l2_units.specs.declared.unit.Unit.{Unit as SignalUnit}
 use Rattle.text_units.specs.UnitsText.{unit_words}
+use Rattle.terminal_text.specs.Forgetting.{lines_behind}
 use Rattle.terminal_text.specs.Rows.{AddsUnit, EndsRow, Shows, ShowsLines, ShowsTurn, left_behind, left_of, row_text}
 use Rattle.terminal_text.specs.Showing.{Shown, deeds_lines, gone, turned, is_quiet, is_silent, leading, leading_at, over, row_line, shown_behind, stays, turn_lines, unit_line, words_or}
 use Rattle.terminal_text.specs.declared.rows.Row.{Row}
 use Rattle.terminal_text.specs.declared.rows.Rows.{Rows}
+use Rattle.terminal_text.specs.declared.stopping.Stopper.{Stopper}
 
 -- A turn that shows nothing, and one that shows something.
 
@@ -27,8 +29,8 @@ both_true true true h = (refl, refl)
 both_true true false h = absurd (cc h)
 both_true false b h = absurd (cc h)
 
-silent_lines : (link : ℕ) (turn : TurnAndDeeds) → is_silent turn ≡ true → turn_lines link turn ≡ []
-silent_lines link turn h =
+silent_lines : (link : ℕ) (stopper : Stopper) (turn : TurnAndDeeds) → is_silent turn ≡ true → turn_lines link stopper turn ≡ []
+silent_lines link stopper turn h =
     let both = both_true (is_quiet turn.turn) (length turn.deeds == 0) h in
     ap (λ (xs : List ℕ). xs ++ deeds_lines link turn.turn.number turn.deeds) (no_lines turn.turn.messages (stays turn.turn) _ _ both.0)
     ∙ no_deeds link turn.turn.number turn.deeds both.1
@@ -43,11 +45,11 @@ left_by link silent (Some row) lines unit more =
     row_line link row.words.items (row.times + (if silent then leading_at row.words.items unit (leading row.words.items more) else 0))
     ++ behind_turn link silent (Some row.words.items) lines unit more
 
-by_turn : (link : ℕ) (row : Option Row) (heard : HeardTurn) (more : List Shown)
-    → left_of link row (turned heard ∷ more) ≡ left_by link (is_silent heard.turn) row (turn_lines link heard.turn) heard.unit more
+by_turn : (link : ℕ) (row : Option Row) (stopper : Stopper) (heard : HeardTurn) (more : List Shown)
+    → left_of link row (turned stopper heard ∷ more) ≡ left_by link (is_silent heard.turn) row (turn_lines link stopper heard.turn) heard.unit more
 unfolding left_by behind_turn
-by_turn link None heard more = refl
-by_turn link (Some row) heard more = refl
+by_turn link None stopper heard more = refl
+by_turn link (Some row) stopper heard more = refl
 
 by_silent : (link : ℕ) (silent : Bool) (row : Option Row) (lines : List ℕ) (unit : Option SignalUnit) (more : List Shown)
     → silent ≡ true → lines ≡ [] → left_by link silent row lines unit more ≡ left_behind link row unit more
@@ -67,15 +69,15 @@ by_loud link false (Some row) lines unit more h =
     ap (λ n. row_line link row.words.items n ++ (lines ++ left_behind link None unit more)) (omega arith)
 
 -- a silent turn with its unit, and without one
-shows_unit : (old new : Rows) (turn : TurnAndDeeds) (unit : SignalUnit) → is_silent turn ≡ true → AddsUnit old unit new
-    → Shows old (turned (record { turn = turn; unit = Some unit }) ∷ []) new
-shows_unit old new turn unit h a = record {
+shows_unit : (old new : Rows) (stopper : Stopper) (turn : TurnAndDeeds) (unit : SignalUnit) → is_silent turn ≡ true → AddsUnit old unit new
+    → Shows old (turned stopper (record { turn = turn; unit = Some unit }) ∷ []) new
+shows_unit old new stopper turn unit h a = record {
   added = a.added;
   text_is = a.text_is;
   link_is = a.link_is;
   goes_on = λ more.
-      by_turn old.link old.row (record { turn = turn; unit = Some unit }) more
-      ∙ by_silent old.link (is_silent turn) old.row (turn_lines old.link turn) (Some unit) more h (silent_lines old.link turn h)
+      by_turn old.link old.row stopper (record { turn = turn; unit = Some unit }) more
+      ∙ by_silent old.link (is_silent turn) old.row (turn_lines old.link stopper turn) (Some unit) more h (silent_lines old.link stopper turn h)
       ∙ a.goes_on more;
 }
 
@@ -83,73 +85,73 @@ left_alone : (link : ℕ) (row : Option Row) (more : List Shown) → left_behind
 left_alone link None more = refl
 left_alone link (Some row) more = refl
 
-shows_none : (old : Rows) (turn : TurnAndDeeds) → is_silent turn ≡ true → Shows old (turned (record { turn = turn; unit = None }) ∷ []) old
-shows_none old turn h = record {
+shows_none : (old : Rows) (stopper : Stopper) (turn : TurnAndDeeds) → is_silent turn ≡ true → Shows old (turned stopper (record { turn = turn; unit = None }) ∷ []) old
+shows_none old stopper turn h = record {
   added = [];
   text_is = sym (append-nil old.text.items);
   link_is = refl;
   goes_on = λ more.
-      by_turn old.link old.row (record { turn = turn; unit = None }) more
-      ∙ by_silent old.link (is_silent turn) old.row (turn_lines old.link turn) None more h (silent_lines old.link turn h)
+      by_turn old.link old.row stopper (record { turn = turn; unit = None }) more
+      ∙ by_silent old.link (is_silent turn) old.row (turn_lines old.link stopper turn) None more h (silent_lines old.link stopper turn h)
       ∙ left_alone old.link old.row more;
 }
 
-shows_loud_unit : (old mid new : Rows) (turn : TurnAndDeeds) (unit : SignalUnit) → is_silent turn ≡ false → ShowsLines old turn mid
-    → AddsUnit mid unit new → Shows old (turned (record { turn = turn; unit = Some unit }) ∷ []) new
-shows_loud_unit old mid new turn unit h lines a = record {
-  added = (row_text old.link old.row ++ turn_lines old.link turn) ++ a.added;
+shows_loud_unit : (old mid new : Rows) (stopper : Stopper) (turn : TurnAndDeeds) (unit : SignalUnit) → is_silent turn ≡ false → ShowsLines old stopper turn mid
+    → AddsUnit mid unit new → Shows old (turned stopper (record { turn = turn; unit = Some unit }) ∷ []) new
+shows_loud_unit old mid new stopper turn unit h lines a = record {
+  added = (row_text old.link old.row ++ turn_lines old.link stopper turn) ++ a.added;
   text_is = a.text_is ∙ ap (λ (xs : List ℕ). xs ++ a.added) lines.text_is
-      ∙ append_assoc old.text.items (row_text old.link old.row ++ turn_lines old.link turn) a.added;
+      ∙ append_assoc old.text.items (row_text old.link old.row ++ turn_lines old.link stopper turn) a.added;
   link_is = a.link_is ∙ lines.link_is;
   goes_on = λ more.
-      by_turn old.link old.row (record { turn = turn; unit = Some unit }) more
-      ∙ by_loud old.link (is_silent turn) old.row (turn_lines old.link turn) (Some unit) more h
-      ∙ sym (append_assoc (row_text old.link old.row) (turn_lines old.link turn) (left_behind old.link None (Some unit) more))
-      ∙ ap (λ (xs : List ℕ). (row_text old.link old.row ++ turn_lines old.link turn) ++ xs)
+      by_turn old.link old.row stopper (record { turn = turn; unit = Some unit }) more
+      ∙ by_loud old.link (is_silent turn) old.row (turn_lines old.link stopper turn) (Some unit) more h
+      ∙ sym (append_assoc (row_text old.link old.row) (turn_lines old.link stopper turn) (left_behind old.link None (Some unit) more))
+      ∙ ap (λ (xs : List ℕ). (row_text old.link old.row ++ turn_lines old.link stopper turn) ++ xs)
       (ap (λ (row : Option Row). left_behind old.link row (Some unit) more) (sym lines.row_is)
       ∙ ap (λ n. left_behind n mid.row (Some unit) more) (sym lines.link_is) ∙ a.goes_on more
       ∙ ap (λ n. a.added ++ left_of n new.row more) lines.link_is)
-      ∙ sym (append_assoc (row_text old.link old.row ++ turn_lines old.link turn) a.added (left_of old.link new.row more));
+      ∙ sym (append_assoc (row_text old.link old.row ++ turn_lines old.link stopper turn) a.added (left_of old.link new.row more));
 }
 
-shows_loud : (old new : Rows) (turn : TurnAndDeeds) → is_silent turn ≡ false → ShowsLines old turn new
-    → Shows old (turned (record { turn = turn; unit = None }) ∷ []) new
-shows_loud old new turn h lines = record {
-  added = row_text old.link old.row ++ turn_lines old.link turn;
+shows_loud : (old new : Rows) (stopper : Stopper) (turn : TurnAndDeeds) → is_silent turn ≡ false → ShowsLines old stopper turn new
+    → Shows old (turned stopper (record { turn = turn; unit = None }) ∷ []) new
+shows_loud old new stopper turn h lines = record {
+  added = row_text old.link old.row ++ turn_lines old.link stopper turn;
   text_is = lines.text_is;
   link_is = lines.link_is;
   goes_on = λ more.
-      by_turn old.link old.row (record { turn = turn; unit = None }) more
-      ∙ by_loud old.link (is_silent turn) old.row (turn_lines old.link turn) None more h
-      ∙ sym (append_assoc (row_text old.link old.row) (turn_lines old.link turn) (left_behind old.link None None more))
-      ∙ ap (λ (row : Option Row). (row_text old.link old.row ++ turn_lines old.link turn) ++ left_of old.link row more) (sym lines.row_is);
+      by_turn old.link old.row stopper (record { turn = turn; unit = None }) more
+      ∙ by_loud old.link (is_silent turn) old.row (turn_lines old.link stopper turn) None more h
+      ∙ sym (append_assoc (row_text old.link old.row) (turn_lines old.link stopper turn) (left_behind old.link None None more))
+      ∙ ap (λ (row : Option Row). (row_text old.link old.row ++ turn_lines old.link stopper turn) ++ left_of old.link row more) (sym lines.row_is);
 }
 
 -- a turn, silent or not
-with_unit : (silent : Bool) (old mid new : Rows) (turn : TurnAndDeeds) (unit : SignalUnit) → is_silent turn ≡ silent → ShowsTurn old turn mid
-    → AddsUnit mid unit new → Shows old (turned (record { turn = turn; unit = Some unit }) ∷ []) new
-with_unit true old mid new turn unit h shows adds =
-    shows_unit old new turn unit h (subst (λ (r : Rows). AddsUnit r unit new) (shows.silent h) adds)
-with_unit false old mid new turn unit h shows adds = shows_loud_unit old mid new turn unit h (shows.loud h) adds
+with_unit : (silent : Bool) (old mid new : Rows) (stopper : Stopper) (turn : TurnAndDeeds) (unit : SignalUnit) → is_silent turn ≡ silent → ShowsTurn old stopper turn mid
+    → AddsUnit mid unit new → Shows old (turned stopper (record { turn = turn; unit = Some unit }) ∷ []) new
+with_unit true old mid new stopper turn unit h shows adds =
+    shows_unit old new stopper turn unit h (subst (λ (r : Rows). AddsUnit r unit new) (shows.silent h) adds)
+with_unit false old mid new stopper turn unit h shows adds = shows_loud_unit old mid new stopper turn unit h (shows.loud h) adds
 
-pub shows_with_unit : (old mid new : Rows) (turn : TurnAndDeeds) (unit : SignalUnit) → ShowsTurn old turn mid → AddsUnit mid unit new
-    → Shows old (turned (record { turn = turn; unit = Some unit }) ∷ []) new
-shows_with_unit old mid new turn unit shows adds = with_unit (is_silent turn) old mid new turn unit refl shows adds
+pub shows_with_unit : (old mid new : Rows) (stopper : Stopper) (turn : TurnAndDeeds) (unit : SignalUnit) → ShowsTurn old stopper turn mid → AddsUnit mid unit new
+    → Shows old (turned stopper (record { turn = turn; unit = Some unit }) ∷ []) new
+shows_with_unit old mid new stopper turn unit shows adds = with_unit (is_silent turn) old mid new stopper turn unit refl shows adds
 
-alone : (silent : Bool) (old new : Rows) (turn : TurnAndDeeds) → is_silent turn ≡ silent → ShowsTurn old turn new
-    → Shows old (turned (record { turn = turn; unit = None }) ∷ []) new
-alone true old new turn h shows =
-    subst (λ (r : Rows). Shows old (turned (record { turn = turn; unit = None }) ∷ []) r) (sym (shows.silent h)) (shows_none old turn h)
-alone false old new turn h shows = shows_loud old new turn h (shows.loud h)
+alone : (silent : Bool) (old new : Rows) (stopper : Stopper) (turn : TurnAndDeeds) → is_silent turn ≡ silent → ShowsTurn old stopper turn new
+    → Shows old (turned stopper (record { turn = turn; unit = None }) ∷ []) new
+alone true old new stopper turn h shows =
+    subst (λ (r : Rows). Shows old (turned stopper (record { turn = turn; unit = None }) ∷ []) r) (sym (shows.silent h)) (shows_none old stopper turn h)
+alone false old new stopper turn h shows = shows_loud old new stopper turn h (shows.loud h)
 
-pub shows_alone : (old new : Rows) (turn : TurnAndDeeds) → ShowsTurn old turn new → Shows old (turned (record { turn = turn; unit = None }) ∷ []) new
-shows_alone old new turn shows = alone (is_silent turn) old new turn refl shows
+pub shows_alone : (old new : Rows) (stopper : Stopper) (turn : TurnAndDeeds) → ShowsTurn old stopper turn new → Shows old (turned stopper (record { turn = turn; unit = None }) ∷ []) new
+shows_alone old new stopper turn shows = alone (is_silent turn) old new stopper turn refl shows
 
-pub silent_turn : (rows : Rows) (turn : TurnAndDeeds) → is_silent turn ≡ true → ShowsTurn rows turn rows
-silent_turn rows turn h = record { silent = λ s. refl; loud = λ l. let no : true ≡ false = sym h ∙ l in absurd cc }
+pub silent_turn : (rows : Rows) (stopper : Stopper) (turn : TurnAndDeeds) → is_silent turn ≡ true → ShowsTurn rows stopper turn rows
+silent_turn rows stopper turn h = record { silent = λ s. refl; loud = λ l. let no : true ≡ false = sym h ∙ l in absurd cc }
 
-pub loud_turn : (old new : Rows) (turn : TurnAndDeeds) → is_silent turn ≡ false → ShowsLines old turn new → ShowsTurn old turn new
-loud_turn old new turn h lines = record { silent = λ s. let no : true ≡ false = sym s ∙ h in absurd cc; loud = λ l. lines }
+pub loud_turn : (old new : Rows) (stopper : Stopper) (turn : TurnAndDeeds) → is_silent turn ≡ false → ShowsLines old stopper turn new → ShowsTurn old stopper turn new
+loud_turn old new stopper turn h lines = record { silent = λ s. let no : true ≡ false = sym s ∙ h in absurd cc; loud = λ l. lines }
 
 -- A unit.
 
@@ -266,3 +268,13 @@ gone_shown old mid new lines told ends is text link row = record {
       ∙ sym (append_assoc (row_text old.link old.row) told (shown_behind old.link None more))
       ∙ ap (λ (r : Option Row). (row_text old.link old.row ++ told) ++ left_of old.link r more) (sym (row ∙ ends.row_is));
 }
+
+-- of where streams run
+pub lines_shown : (old mid new : Rows) (lines : List ℕ) → EndsRow old mid → (lines ≡ [] → ⊥) → new.text.items ≡ mid.text.items ++ lines
+    → new.link ≡ mid.link → new.row ≡ mid.row → Shows old (lines_behind lines) new
+lines_shown old mid new [] ends some text link row = absurd (some refl)
+lines_shown old mid new (c ∷ cs) ends some text link row = gone_shown old mid new (c ∷ cs) (c ∷ cs) ends refl text link row
+
+pub no_lines_shown : (rows : Rows) (lines : List ℕ) → lines ≡ [] → Shows rows (lines_behind lines) rows
+no_lines_shown rows [] none = shows_nothing rows
+no_lines_shown rows (c ∷ cs) none = absurd (cc none)

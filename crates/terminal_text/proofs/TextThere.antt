@@ -44,10 +44,14 @@ use Rattle.text_forms.specs.Timers.{Lengths, lengths_of, timers_of, timers_read}
 use Rattle.text_forms.specs.Times.{LinkTimes, link_times_of, times_of, times_read}
 use Rattle.text_forms.specs.declared.early.Early.{Early}
 use Rattle.text_forms.specs.declared.asked.Asked.{Asked}
-use Rattle.terminal_text.specs.Answers.{Asks, Checkpoints, CommandsBy, Does, DoesAt, TellsHistory, Exchanges, HearsLine, Looks, ManagesBy, asker, bits_in, done_text, is_below, is_refused, link_in, one_by_one, unit_bits}
+use Rattle.terminal_text.specs.Answers.{Asks, Checkpoints, CommandsBy, Does, DoesAt, DoesTold, TellsCounts, TellsHistory, Exchanges, HearsLine, Looks, ManagesBy, asker, bits_in, done_text, is_below, is_refused, link_in, link_of_event, one_by_one, streams_told, turn_at, unit_bits}
 use Rattle.terminal_text.specs.Forgetting.{HearsEach, HearsOne, checkpointed, from_now, left_by, shown_of, unasked}
 use Rattle.terminal_text.specs.Showing.{Shown, over}
 use Rattle.terminal_text.specs.declared.forgetting.ForgettingBench.{ForgettingBench}
+use Rattle.terminal_text.specs.declared.stopping.Watch.{Watch}
+use Rattle.terminal_text.specs.Moving.{moved, told_again}
+use Rattle.terminal_text.specs.Stopping.{commanded_by, managed_by}
+use Rattle.term_managed.specs.declared.turn.Deed.{Deed}
 use Rattle.terminal_text.specs.Text.{HasText, MayDo, MayDoAt, MayFollow, MayOpen, MayOpenAs, MayRead, MayTime, Opens, SetsTimes, TerminalOutcome, opened_bench, opened_end, settings_of, terminal_rules, timed, told_lengths, told_times, usual, usual_times}
 use Rattle.terminal_text.specs.declared.fault.TerminalFault.{TerminalFault}
 use Rattle.terminal_text.specs.declared.fault.TerminalFault.TheVariants.{Step, Text}
@@ -225,9 +229,11 @@ IsDoneThere links asked old =
 abbrev IsAtThere : ℕ → (ManagedState → List ℕ → ManagedState → Type 0) → ManagedState → Type 0
 IsAtThere links does old = (printed : List ℕ) × (new : ManagedState) × does old printed new × IsReadyEnd links new
 
-at_there : (links : ℕ) (does : ManagedState → List ℕ → ManagedState → Type 0) (old : ForgettingBench) → IsAtThere links does old.managed
-    → (printed : List ℕ) × (new : ForgettingBench) × DoesAt does old printed new × IsReadyEnd links new.managed
-at_there links does old there = (there.0, record { managed = there.1; plan = old.plan }, (there.2, refl), there.3)
+at_there : (links : ℕ) (does : ManagedState → List ℕ → ManagedState → Type 0) (watches : List Watch) (old : ForgettingBench)
+    → IsAtThere links does old.managed
+    → (printed : List ℕ) × (new : ForgettingBench) × DoesAt does watches old printed new × IsReadyEnd links new.managed
+at_there links does watches old there =
+    (there.0, record { managed = there.1; plan = old.plan; watches = watches; streams = old.streams }, (there.2, refl, refl, refl), there.3)
 
 below : (link links : ℕ) → nat_lt link links ≡ true → link < links
 below link links is = grind (arith, nat_tests, is)
@@ -282,21 +288,20 @@ ready_by : (links : ℕ) (due : Bool) (old : ManagedState) → IsReadyEnd links 
 ready_by links true old ready = checkpointed_ready links old ready
 ready_by links false old ready = ready
 
-left_ready : (links : ℕ) (one : Option HeardTurn) (s : ForgettingBench) → IsReadyEnd links s.managed
-    → IsReadyEnd links (left_by one s).managed
-left_ready links None s ready = ready
-left_ready links (Some heard) s ready = ready_by links _ s.managed ready
+left_ready : (links link : ℕ) (old : ForgettingBench) (one : Option HeardTurn) (between : ManagedState) → IsReadyEnd links between
+    → IsReadyEnd links (left_by link old one between).managed
+left_ready links link old None between ready = ready
+left_ready links link old (Some heard) between ready = ready_by links _ between ready
 
 one_there : (links link : ℕ) (bits : List Bool) (old : ForgettingBench) → IsReadyEnd links old.managed → link < links
     → length bits ≤ 8 → (items : List Shown) × (new : ForgettingBench) × HearsOne link bits old items new × IsReadyEnd links new.managed
 one_there links link bits old ready is short =
     let all = pieces_there links link (bits ∷ []) old.managed ready is (short, tt) in
-    let own = all.2 in
-    let between : ForgettingBench = record { managed = own.0; plan = old.plan } in (
-      shown_of own.1 between,
-      left_by own.1 between,
+    let own = all.2 in (
+      shown_of link old own.1 own.0,
+      left_by link old own.1 own.0,
       record { one = own.1; between = own.0; hears = own.3; items_are = refl; new_is = refl },
-      left_ready links own.1 between (subst (λ (m : ManagedState). IsReadyEnd links m) own.4.1 all.3),
+      left_ready links link old own.1 own.0 (subst (λ (m : ManagedState). IsReadyEnd links m) own.4.1 all.3),
     )
 
 each_there : (links link : ℕ) (pieces : List (List Bool)) (old : ForgettingBench) → IsReadyEnd links old.managed → link < links
@@ -359,45 +364,73 @@ look_there links link old ready is =
     let there = there_is old.bench.links link (subst (λ n. link < n) (sym ready.bench.count) is) in
     (_, old, record { at = there.0; is_at = there.1; printed_is = refl; new_is = refl }, ready)
 
-activates_there : (links link : ℕ) (on : Bool) (old : ManagedState) → IsReadyEnd links old → link < links
-    → (printed : List ℕ) × (new : ManagedState) × ManagesBy on (Activates link) link old printed new × IsReadyEnd links new
+managed_as : ManagedState → List Deed → ℕ → ForgettingBench → ForgettingBench
+managed_as managed deeds link old = record {
+  managed = managed;
+  plan = old.plan;
+  watches = managed_by deeds link old.watches;
+  streams = told_again old.streams managed.bench.set.state;
+}
+
+activates_there : (links link : ℕ) (on : Bool) (old : ForgettingBench) → IsReadyEnd links old.managed → link < links
+    → (printed : List ℕ) × (new : ForgettingBench) × ManagesBy on (Activates link) link old printed new × IsReadyEnd links new.managed
+unfolding managed_as
 activates_there links link true old ready is = (codes "refused 9\n", old, (refl, refl), ready)
 activates_there links link false old ready is =
-    let all = carries_there links link (activated (seen_at link old)) old ready is in
-    (_, all.1, (all.0, all.2, refl), all.3)
+    let all = carries_there links link (activated (seen_at link old.managed)) old.managed ready is in
+    (_, managed_as all.1 all.0 link old, (all.0, all.2, refl, refl, refl, refl), all.3)
 
-deactivates_there : (links link : ℕ) (off : Bool) (old : ManagedState) → IsReadyEnd links old → link < links
-    → (printed : List ℕ) × (new : ManagedState) × ManagesBy off (Deactivates link) link old printed new × IsReadyEnd links new
+deactivates_there : (links link : ℕ) (off : Bool) (old : ForgettingBench) → IsReadyEnd links old.managed → link < links
+    → (printed : List ℕ) × (new : ForgettingBench) × ManagesBy off (Deactivates link) link old printed new × IsReadyEnd links new.managed
+unfolding managed_as
 deactivates_there links link true old ready is = (codes "refused 9\n", old, (refl, refl), ready)
 deactivates_there links link false old ready is =
-    let all = carries_there links link deactivated old ready is in
-    (_, all.1, (all.0, all.2, refl), all.3)
+    let all = carries_there links link deactivated old.managed ready is in
+    (_, managed_as all.1 all.0 link old, (all.0, all.2, refl, refl, refl, refl), all.3)
+
+told_there : (links turn : ℕ) (does : ManagedState → List ℕ → ManagedState → Type 0) (old : ForgettingBench)
+    → IsAtThere links does old.managed
+    → (printed : List ℕ) × (new : ForgettingBench) × DoesTold turn does old printed new × IsReadyEnd links new.managed
+told_there links turn does old there =
+    let new : ForgettingBench = record {
+      managed = there.1;
+      plan = old.plan;
+      watches = old.watches;
+      streams = told_again old.streams there.1.bench.set.state;
+    } in
+    (moved turn old.streams there.1.bench.set.state ++ there.0, new, (there.0, there.2, refl, refl, refl, refl), there.3)
 
 does_there : (links : ℕ) (asked : Asked) (old : ForgettingBench) → IsReadyEnd links old.managed
     → is_below links (link_in asked) ≡ true → IsDoneThere links asked old
 does_there links (Asked.Command link command) old ready is =
     let refused = is_refused command link old.managed.bench in
-    at_there links (CommandsBy refused link command) old (command_there links link command refused old.managed ready (below link links is))
+    at_there links (CommandsBy refused link command) (commanded_by command link old.watches) old (command_there links link command refused old.managed ready (below link links is))
 does_there links (Asked.Octets link octets) old ready is = exchanges_there links link octets old ready (below link links is)
 does_there links (Asked.Hear link unit) old ready is =
     hears_there links link (over unit.times (unit_bits unit.octets)) old ready (below link links is)
 does_there links (Asked.Flags link times) old ready is = hears_there links link (over times flag) old ready (below link links is)
 does_there links (Asked.Bits link bits) old ready is =
     hears_there links link (over bits.times (bits_in bits.octets)) old ready (below link links is)
-does_there links (Asked.Event event) old ready is = at_there links (Asks event) old (event_there links event old.managed ready)
+does_there links (Asked.Event event) old ready is =
+    told_there links (turn_at (link_of_event event) old.managed) (Asks event) old (event_there links event old.managed ready)
 does_there links (Asked.Look link) old ready is =
-    at_there links (Looks link) old (look_there links link old.managed ready (below link links is))
+    at_there links (Looks link) old.watches old (look_there links link old.managed ready (below link links is))
 does_there links (Asked.Activate link) old ready is =
-    let on = is_on (slice_get old.managed.kept link) in
-    at_there links (ManagesBy on (Activates link) link) old (activates_there links link on old.managed ready (below link links is))
+    activates_there links link (is_on (slice_get old.managed.kept link)) old ready (below link links is)
 does_there links (Asked.Deactivate link) old ready is =
-    let off = not (is_on (slice_get old.managed.kept link)) in
-    at_there links (ManagesBy off (Deactivates link) link) old (deactivates_there links link off old.managed ready (below link links is))
+    deactivates_there links link (not (is_on (slice_get old.managed.kept link))) old ready (below link links is)
 does_there links (Asked.Checkpoint quiet) old ready is =
-    at_there links (Checkpoints quiet) old (checkpoint_there quiet links old.managed ready)
+    at_there links (Checkpoints quiet) old.watches old (checkpoint_there quiet links old.managed ready)
 does_there links (Asked.Forget every told) old ready is =
-    (_, record { managed = old.managed; plan = from_now every told }, (refl, refl), ready)
-does_there links Asked.History old ready is = at_there links TellsHistory old (_, old.managed, (refl, refl), ready)
+    (_, record { managed = old.managed; plan = from_now every told; watches = old.watches; streams = old.streams }, (refl, refl), ready)
+does_there links (Asked.Events on) old ready is = (
+  _,
+  record { managed = old.managed; plan = old.plan; watches = old.watches; streams = streams_told on old.managed },
+  (refl, refl),
+  ready,
+)
+does_there links Asked.Counts old ready is = at_there links TellsCounts old.watches old (_, old.managed, (refl, refl), ready)
+does_there links Asked.History old ready is = at_there links TellsHistory old.watches old (_, old.managed, (refl, refl), ready)
 
 do_at_there : (there : Bool) (links n : ℕ) (asked : Asked) (old : ForgettingBench) → IsReadyEnd links old.managed
     → (there ≡ true → is_below links (link_in asked) ≡ true) → Has (MayDoAt there n asked old)

@@ -25,6 +25,10 @@ use Rattle.set_model.specs.History.{IsStep}
 use Rattle.term_model.specs.declared.command.Command.{Command}
 use Rattle.text_forms.specs.declared.asked.Asked.{Asked}
 use Rattle.terminal_text.specs.Forgetting.{HearsEach, checkpointed, from_now, gone_text}
+use Rattle.terminal_text.specs.Counting.{counts_text}
+use Rattle.terminal_text.specs.Moving.{moved, places, told_again}
+use Rattle.terminal_text.specs.Stopping.{commanded_by, managed_by}
+use Rattle.terminal_text.specs.declared.stopping.Watch.{Watch}
 use Rattle.terminal_text.specs.Showing.{Shown, deeds_lines, over, shown, turns_among, without_unit, word_name}
 use Rattle.terminal_text.specs.declared.forgetting.ForgettingBench.{ForgettingBench}
 
@@ -133,17 +137,52 @@ abbrev pub turns_in : Option AtLink → ℕ
 turns_in None = 0
 turns_in (Some at) = at.counts.turns
 
-abbrev pub managed_text : ℕ → ManagedState → List Deed → List ℕ
-managed_text link old deeds = deeds_lines link (turns_in (slice_get old.bench.links link)) deeds ++ done_text
+-- so many turns a link took
+abbrev pub turns_at : ℕ → ManagedState → ℕ
+turns_at link old = turns_in (slice_get old.bench.links link)
 
-abbrev pub ManagesBy : Bool → (ManagedState → List Deed → ManagedState → Type 0) → ℕ → ManagedState → List ℕ → ManagedState → Type 0
+abbrev pub managed_text : ℕ → ForgettingBench → List Deed → ManagedState → List ℕ
+managed_text link old deeds new =
+    deeds_lines link (turns_at link old.managed) deeds
+    ++ (moved (turns_at link old.managed) old.streams new.bench.set.state ++ done_text)
+
+abbrev pub ManagesBy : Bool → (ManagedState → List Deed → ManagedState → Type 0) → ℕ → ForgettingBench → List ℕ → ForgettingBench
+    → Type 0
 ManagesBy true carries link old printed new = (printed ≡ codes "refused 9\n") × (new ≡ old)
 ManagesBy false carries link old printed new =
-    (deeds : List Deed) × carries old deeds new × (printed ≡ managed_text link old deeds)
+    (deeds : List Deed) × carries old.managed deeds new.managed × (printed ≡ managed_text link old deeds new.managed)
+    × (new.plan ≡ old.plan) × (new.watches ≡ managed_by deeds link old.watches)
+    × (new.streams ≡ told_again old.streams new.managed.bench.set.state)
 
--- at the end itself; the checkpoints that nobody asks for stay as they are
-abbrev pub DoesAt : (ManagedState → List ℕ → ManagedState → Type 0) → ForgettingBench → List ℕ → ForgettingBench → Type 0
-DoesAt does old printed new = does old.managed printed new.managed × (new.plan ≡ old.plan)
+-- the code beside the definition: these were asked of the end behind so many turns, and that is told and kept
+pub record IsManaged (link turns : ℕ) (deeds : List Deed) (old : ForgettingBench) (printed : List ℕ) (new : ForgettingBench) : Type 0 where
+  pub managed_is : new.managed ≡ old.managed
+  pub plan_is : new.plan ≡ old.plan
+  pub watches_are : new.watches ≡ managed_by deeds link old.watches
+  pub streams_are : new.streams ≡ told_again old.streams old.managed.bench.set.state
+  pub printed_is : printed ≡ deeds_lines link turns deeds ++ (moved turns old.streams old.managed.bench.set.state ++ done_text)
+
+-- at the end itself; the checkpoints that nobody asks for stay as they are, and of who told links to stop this is kept
+abbrev pub DoesAt : (ManagedState → List ℕ → ManagedState → Type 0) → List Watch → ForgettingBench → List ℕ → ForgettingBench → Type 0
+DoesAt does watches old printed new =
+    does old.managed printed new.managed × (new.plan ≡ old.plan) × (new.watches ≡ watches) × (new.streams ≡ old.streams)
+
+-- the same where streams may run elsewhere by it: that is told before the answer, with this number of a turn
+abbrev pub DoesTold : ℕ → (ManagedState → List ℕ → ManagedState → Type 0) → ForgettingBench → List ℕ → ForgettingBench → Type 0
+DoesTold turn does old printed new =
+    (own : List ℕ) × does old.managed own new.managed × (new.plan ≡ old.plan) × (new.watches ≡ old.watches)
+    × (new.streams ≡ told_again old.streams new.managed.bench.set.state)
+    × (printed ≡ moved turn old.streams new.managed.bench.set.state ++ own)
+
+-- an event of a link's terminal comes behind its last turn; one of a user moves no stream
+abbrev pub turn_at : Option ℕ → ManagedState → ℕ
+turn_at None old = 0
+turn_at (Some link) old = turns_at link old
+
+-- STREAMS are told from now on, beginning with where they run; or no more
+abbrev pub streams_told : Bool → ManagedState → Option (List ℕ)
+streams_told true old = Some (places old.bench.set.state)
+streams_told false old = None
 
 -- A CHECKPOINT, and a history
 abbrev pub Checkpoints : Bool → ManagedState → List ℕ → ManagedState → Type 0
@@ -152,26 +191,10 @@ Checkpoints quiet old printed new = (printed ≡ gone_text quiet old.bench.set.h
 abbrev pub TellsHistory : ManagedState → List ℕ → ManagedState → Type 0
 TellsHistory old printed new = (printed ≡ entries_text Narrow old.bench.set.history ++ done_text) × (new ≡ old)
 
--- WHAT IS ASKED FOR is done: this is printed, and this is left
-abbrev pub Does : Asked → ForgettingBench → List ℕ → ForgettingBench → Type 0
-Does (Asked.Command link command) old printed new =
-    DoesAt (CommandsBy (is_refused command link old.managed.bench) link command) old printed new
-Does (Asked.Activate link) old printed new =
-    DoesAt (ManagesBy (is_on (slice_get old.managed.kept link)) (Activates link) link) old printed new
-Does (Asked.Deactivate link) old printed new =
-    DoesAt (ManagesBy (not (is_on (slice_get old.managed.kept link))) (Deactivates link) link) old printed new
-Does (Asked.Octets link octets) old printed new = Exchanges link octets old printed new
-Does (Asked.Hear link unit) old printed new = HearsLine link (over unit.times (unit_bits unit.octets)) old printed new
-Does (Asked.Flags link times) old printed new = HearsLine link (over times flag) old printed new
-Does (Asked.Bits link bits) old printed new = HearsLine link (over bits.times (bits_in bits.octets)) old printed new
-Does (Asked.Event event) old printed new = DoesAt (Asks event) old printed new
-Does (Asked.Look link) old printed new = DoesAt (Looks link) old printed new
-Does (Asked.Checkpoint quiet) old printed new = DoesAt (Checkpoints quiet) old printed new
-Does (Asked.Forget every told) old printed new =
-    (printed ≡ done_text) × (new ≡ record { managed = old.managed; plan = from_now every told })
-Does Asked.History old printed new = DoesAt TellsHistory old printed new
+abbrev pub TellsCounts : ManagedState → List ℕ → ManagedState → Type 0
+TellsCounts old printed new = (printed ≡ counts_text old.bench.set) × (new ≡ old)
 
--- the link that is asked for, if one is
+-- the link of whose terminal an event is; None: it's a user's
 abbrev pub link_of_event : Event → Option ℕ
 link_of_event (Event.Next link) = Some link
 link_of_event (Event.Heard link unit) = Some link
@@ -186,6 +209,30 @@ link_of_event (Event.BackTimeout link) = Some link
 link_of_event (Event.Test link) = Some link
 link_of_event _ = None
 
+-- WHAT IS ASKED FOR is done: this is printed, and this is left
+abbrev pub Does : Asked → ForgettingBench → List ℕ → ForgettingBench → Type 0
+Does (Asked.Command link command) old printed new =
+    DoesAt (CommandsBy (is_refused command link old.managed.bench) link command) (commanded_by command link old.watches) old printed new
+Does (Asked.Activate link) old printed new =
+    ManagesBy (is_on (slice_get old.managed.kept link)) (Activates link) link old printed new
+Does (Asked.Deactivate link) old printed new =
+    ManagesBy (not (is_on (slice_get old.managed.kept link))) (Deactivates link) link old printed new
+Does (Asked.Octets link octets) old printed new = Exchanges link octets old printed new
+Does (Asked.Hear link unit) old printed new = HearsLine link (over unit.times (unit_bits unit.octets)) old printed new
+Does (Asked.Flags link times) old printed new = HearsLine link (over times flag) old printed new
+Does (Asked.Bits link bits) old printed new = HearsLine link (over bits.times (bits_in bits.octets)) old printed new
+Does (Asked.Event event) old printed new = DoesTold (turn_at (link_of_event event) old.managed) (Asks event) old printed new
+Does (Asked.Look link) old printed new = DoesAt (Looks link) old.watches old printed new
+Does (Asked.Checkpoint quiet) old printed new = DoesAt (Checkpoints quiet) old.watches old printed new
+Does (Asked.Forget every told) old printed new =
+    (printed ≡ done_text) × (new ≡ record { managed = old.managed; plan = from_now every told; watches = old.watches; streams = old.streams })
+Does (Asked.Events on) old printed new =
+    (printed ≡ done_text)
+    × (new ≡ record { managed = old.managed; plan = old.plan; watches = old.watches; streams = streams_told on old.managed })
+Does Asked.Counts old printed new = DoesAt TellsCounts old.watches old printed new
+Does Asked.History old printed new = DoesAt TellsHistory old.watches old printed new
+
+-- the link that is asked for, if one is
 abbrev pub link_in : Asked → Option ℕ
 link_in (Asked.Command link command) = Some link
 link_in (Asked.Octets link octets) = Some link

@@ -1,3 +1,6 @@
+pub mod Stopping
+pub mod Moving
+pub mod Counting
 pub mod Showing
 pub mod Forgetting
 pub mod Answers

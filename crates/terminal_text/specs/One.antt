@@ -29,11 +29,14 @@ use Rattle.text_forms.specs.declared.early.Early.{Early}
 use Rattle.text_forms.specs.Asking.{asked_of}
 use Rattle.text_forms.specs.Timers.{Lengths, timers_of}
 use Rattle.text_forms.specs.declared.asked.Asked.{Asked}
-use Rattle.terminal_text.specs.Answers.{Asks, Checkpoints, CommandsBy, Does, DoesAt, TellsHistory, Exchanges, HearsLine, Looks, ManagesBy, asker, bits_in, is_below, is_refused, link_in, look_text, managed_text, one_by_one, unit_bits}
+use Rattle.terminal_text.specs.Answers.{Asks, Checkpoints, CommandsBy, Does, DoesAt, DoesTold, TellsCounts, TellsHistory, Exchanges, HearsLine, Looks, ManagesBy, asker, bits_in, is_below, is_refused, link_in, link_of_event, look_text, managed_text, turn_at, one_by_one, unit_bits}
 use Rattle.terminal_text.specs.Forgetting.{HearsEach, HearsOne, left_by, shown_of, unasked}
 use Rattle.terminal_text.specs.Showing.{Shown, over, shown, turns_among, without_unit}
 use Rattle.terminal_text.specs.declared.forgetting.Forgetting.{Forgetting}
 use Rattle.terminal_text.specs.declared.forgetting.ForgettingBench.{ForgettingBench}
+use Rattle.terminal_text.specs.declared.stopping.Watch.{Watch}
+use Rattle.terminal_text.specs.Moving.{moved, told_again}
+use Rattle.terminal_text.specs.Stopping.{commanded_by, managed_by}
 use Rattle.std.specs.Option.{option_to_list}
 use Rattle.terminal_text.specs.Text.{IsDone, MayDo, MayDoAt, MayFollow, MayOpen, MayOpenAs, MayTime, Opens, SetsTimes, TerminalOutcome, opened_bench, opened_end, settings_of, timed, told_lengths, told_times, terminal_rules, usual}
 use Rattle.text_lines.specs.Lines.{prints}
@@ -138,10 +141,16 @@ commands_one false link command old p q x y a b =
           (a.2 ∙ sym b.2),
     )
 
-same_driven : (a b : ForgettingBench) → a.managed ≡ b.managed → a.plan ≡ b.plan → a ≡ b
-same_driven a b managed plan =
-    ap (λ (m : ManagedState). record { managed = m; plan = a.plan }) managed
-    ∙ ap (λ (p : Forgetting). record { managed = b.managed; plan = p }) plan
+driven : ManagedState → Forgetting → List Watch → Option (List ℕ) → ForgettingBench
+driven managed plan watches streams = record { managed = managed; plan = plan; watches = watches; streams = streams }
+
+same_driven : (a b : ForgettingBench) → a.managed ≡ b.managed → a.plan ≡ b.plan → a.watches ≡ b.watches → a.streams ≡ b.streams → a ≡ b
+unfolding driven
+same_driven a b managed plan watches streams =
+    ap (λ (m : ManagedState). driven m a.plan a.watches a.streams) managed
+    ∙ ap (λ (p : Forgetting). driven b.managed p a.watches a.streams) plan
+    ∙ ap (λ (w : List Watch). driven b.managed b.plan w a.streams) watches
+    ∙ ap (λ (t : Option (List ℕ)). driven b.managed b.plan b.watches t) streams
 
 -- What comes piece by piece.
 
@@ -157,18 +166,14 @@ piece_one link bits old a b x y f g =
     let one = one_hearing link (bits ∷ []) old (option_to_list a ++ []) (option_to_list b ++ []) x y
     (x, a, [], f, (refl, refl), refl) (y, b, [], g, (refl, refl), refl) in (same_list a b one.0, one.1)
 
-driven : Forgetting → ManagedState → ForgettingBench
-driven plan managed = record { managed = managed; plan = plan }
-
 hears_each_one : (link : ℕ) (bits : List Bool) (old : ForgettingBench) (p q : List Shown) (x y : ForgettingBench)
     → HearsOne link bits old p x → HearsOne link bits old q y → (p ≡ q) × (x ≡ y)
-unfolding driven
 hears_each_one link bits old p q x y a b =
     let one = piece_one link bits old.managed a.one b.one a.between b.between a.hears b.hears in (
-      a.items_are ∙ ap (λ (h : Option HeardTurn). shown_of h (driven old.plan a.between)) one.0
-          ∙ ap (λ (m : ManagedState). shown_of b.one (driven old.plan m)) one.1 ∙ sym b.items_are,
-      a.new_is ∙ ap (λ (h : Option HeardTurn). left_by h (driven old.plan a.between)) one.0
-          ∙ ap (λ (m : ManagedState). left_by b.one (driven old.plan m)) one.1 ∙ sym b.new_is,
+      a.items_are ∙ ap (λ (h : Option HeardTurn). shown_of link old h a.between) one.0
+          ∙ ap (λ (m : ManagedState). shown_of link old b.one m) one.1 ∙ sym b.items_are,
+      a.new_is ∙ ap (λ (h : Option HeardTurn). left_by link old h a.between) one.0
+          ∙ ap (λ (m : ManagedState). left_by link old b.one m) one.1 ∙ sym b.new_is,
     )
 
 pub one_driven : (link : ℕ) (pieces : List (List Bool)) (old : ForgettingBench) (p q : List Shown) (x y : ForgettingBench)
@@ -226,19 +231,37 @@ looks_one link old p q x y a b = (
   a.new_is ∙ sym b.new_is,
 )
 
-activates_one : (on : Bool) (link : ℕ) (old : ManagedState) (p q : List ℕ) (x y : ManagedState)
+-- the same was asked, and the same end is left by it
+IsAfter : ℕ → ForgettingBench → List Deed → List ℕ → ForgettingBench → Type 0
+IsAfter link old deeds printed new =
+    (printed ≡ managed_text link old deeds new.managed) × (new.plan ≡ old.plan) × (new.watches ≡ managed_by deeds link old.watches)
+    × (new.streams ≡ told_again old.streams new.managed.bench.set.state)
+
+managed_one : (link : ℕ) (old : ForgettingBench) (deeds others : List Deed) (p q : List ℕ) (x y : ForgettingBench) → deeds ≡ others
+    → x.managed ≡ y.managed → IsAfter link old deeds p x → IsAfter link old others q y → (p ≡ q) × (x ≡ y)
+unfolding IsAfter
+managed_one link old deeds others p q x y same managed a b = (
+  a.0 ∙ ap (λ (ds : List Deed). managed_text link old ds x.managed) same
+      ∙ ap (λ (m : ManagedState). managed_text link old others m) managed ∙ sym b.0,
+  same_driven x y managed (a.1 ∙ sym b.1) (a.2 ∙ ap (λ (ds : List Deed). managed_by ds link old.watches) same ∙ sym b.2)
+      (a.3 ∙ ap (λ (m : ManagedState). told_again old.streams m.bench.set.state) managed ∙ sym b.3),
+)
+
+activates_one : (on : Bool) (link : ℕ) (old : ForgettingBench) (p q : List ℕ) (x y : ForgettingBench)
     → ManagesBy on (Activates link) link old p x → ManagesBy on (Activates link) link old q y → (p ≡ q) × (x ≡ y)
+unfolding IsAfter
 activates_one true link old p q x y a b = (a.0 ∙ sym b.0, a.1 ∙ sym b.1)
 activates_one false link old p q x y a b =
-    let one = carries_one link (activated (seen_at link old)) old a.0 b.0 x y a.1 b.1 in
-    (a.2 ∙ ap (λ (deeds : List Deed). managed_text link old deeds) one.0 ∙ sym b.2, one.1)
+    let one = carries_one link (activated (seen_at link old.managed)) old.managed a.0 b.0 x.managed y.managed a.1 b.1 in
+    managed_one link old a.0 b.0 p q x y one.0 one.1 (a.2, a.3, a.4, a.5) (b.2, b.3, b.4, b.5)
 
-deactivates_one : (off : Bool) (link : ℕ) (old : ManagedState) (p q : List ℕ) (x y : ManagedState)
+deactivates_one : (off : Bool) (link : ℕ) (old : ForgettingBench) (p q : List ℕ) (x y : ForgettingBench)
     → ManagesBy off (Deactivates link) link old p x → ManagesBy off (Deactivates link) link old q y → (p ≡ q) × (x ≡ y)
+unfolding IsAfter
 deactivates_one true link old p q x y a b = (a.0 ∙ sym b.0, a.1 ∙ sym b.1)
 deactivates_one false link old p q x y a b =
-    let one = carries_one link deactivated old a.0 b.0 x y a.1 b.1 in
-    (a.2 ∙ ap (λ (deeds : List Deed). managed_text link old deeds) one.0 ∙ sym b.2, one.1)
+    let one = carries_one link deactivated old.managed a.0 b.0 x.managed y.managed a.1 b.1 in
+    managed_one link old a.0 b.0 p q x y one.0 one.1 (a.2, a.3, a.4, a.5) (b.2, b.3, b.4, b.5)
 
 checkpoints_one : (quiet : Bool) (old : ManagedState) (p q : List ℕ) (x y : ManagedState) → Checkpoints quiet old p x
     → Checkpoints quiet old q y → (p ≡ q) × (x ≡ y)
@@ -247,35 +270,51 @@ checkpoints_one quiet old p q x y a b = (a.0 ∙ sym b.0, a.1 ∙ sym b.1)
 history_one : (old : ManagedState) (p q : List ℕ) (x y : ManagedState) → TellsHistory old p x → TellsHistory old q y → (p ≡ q) × (x ≡ y)
 history_one old p q x y a b = (a.0 ∙ sym b.0, a.1 ∙ sym b.1)
 
+counts_one : (old : ManagedState) (p q : List ℕ) (x y : ManagedState) → TellsCounts old p x → TellsCounts old q y → (p ≡ q) × (x ≡ y)
+counts_one old p q x y a b = (a.0 ∙ sym b.0, a.1 ∙ sym b.1)
+
 -- at the end itself
-at_one : (does : ManagedState → List ℕ → ManagedState → Type 0) (old : ForgettingBench) (p q : List ℕ) (x y : ForgettingBench)
-    → ((u v : ManagedState) → does old.managed p u → does old.managed q v → (p ≡ q) × (u ≡ v))
-    → DoesAt does old p x → DoesAt does old q y → (p ≡ q) × (x ≡ y)
-at_one does old p q x y one a b =
-    let both = one x.managed y.managed a.0 b.0 in (both.0, same_driven x y both.1 (a.1 ∙ sym b.1))
+at_one : (does : ManagedState → List ℕ → ManagedState → Type 0) (watches : List Watch) (old : ForgettingBench) (p q : List ℕ)
+    (x y : ForgettingBench) → ((u v : ManagedState) → does old.managed p u → does old.managed q v → (p ≡ q) × (u ≡ v))
+    → DoesAt does watches old p x → DoesAt does watches old q y → (p ≡ q) × (x ≡ y)
+at_one does watches old p q x y one a b =
+    let both = one x.managed y.managed a.0 b.0 in (both.0, same_driven x y both.1 (a.1 ∙ sym b.1) (a.2 ∙ sym b.2) (a.3 ∙ sym b.3))
+
+-- with where streams run told before
+told_one : (turn : ℕ) (does : ManagedState → List ℕ → ManagedState → Type 0) (old : ForgettingBench) (p q : List ℕ)
+    (x y : ForgettingBench) → ((a b : List ℕ) (u v : ManagedState) → does old.managed a u → does old.managed b v → (a ≡ b) × (u ≡ v))
+    → DoesTold turn does old p x → DoesTold turn does old q y → (p ≡ q) × (x ≡ y)
+told_one turn does old p q x y one a b =
+    let both = one a.0 b.0 x.managed y.managed a.1 b.1 in (
+      a.5 ∙ ap (λ (own : List ℕ). moved turn old.streams x.managed.bench.set.state ++ own) both.0
+          ∙ ap (λ (m : ManagedState). moved turn old.streams m.bench.set.state ++ b.0) both.1 ∙ sym b.5,
+      same_driven x y both.1 (a.2 ∙ sym b.2) (a.3 ∙ sym b.3)
+          (a.4 ∙ ap (λ (m : ManagedState). told_again old.streams m.bench.set.state) both.1 ∙ sym b.4),
+    )
 
 does_one : (asked : Asked) (old : ForgettingBench) (p q : List ℕ) (x y : ForgettingBench) → Does asked old p x → Does asked old q y
     → (p ≡ q) × (x ≡ y)
 does_one (Asked.Command link command) old p q x y a b =
     let m = old.managed in
     let refused = is_refused command link m.bench in
-    at_one (CommandsBy refused link command) old p q x y (λ u v. commands_one refused link command m p q u v) a b
+    at_one (CommandsBy refused link command) (commanded_by command link old.watches) old p q x y (λ u v. commands_one refused link command m p q u v) a b
 does_one (Asked.Octets link octets) old p q x y a b = exchanges_one link octets old p q x y a b
 does_one (Asked.Hear link unit) old p q x y a b = hears_one link (over unit.times (unit_bits unit.octets)) old p q x y a b
 does_one (Asked.Flags link times) old p q x y a b = hears_one link (over times flag) old p q x y a b
 does_one (Asked.Bits link bits) old p q x y a b = hears_one link (over bits.times (bits_in bits.octets)) old p q x y a b
-does_one (Asked.Event event) old p q x y a b = at_one (Asks event) old p q x y (λ u v. asks_one event old.managed p q u v) a b
-does_one (Asked.Look link) old p q x y a b = at_one (Looks link) old p q x y (λ u v. looks_one link old.managed p q u v) a b
+does_one (Asked.Event event) old p q x y a b =
+    told_one (turn_at (link_of_event event) old.managed) (Asks event) old p q x y (λ c d u v. asks_one event old.managed c d u v) a b
+does_one (Asked.Look link) old p q x y a b = at_one (Looks link) old.watches old p q x y (λ u v. looks_one link old.managed p q u v) a b
 does_one (Asked.Activate link) old p q x y a b =
-    let on = is_on (slice_get old.managed.kept link) in
-    at_one (ManagesBy on (Activates link) link) old p q x y (λ u v. activates_one on link old.managed p q u v) a b
+    activates_one (is_on (slice_get old.managed.kept link)) link old p q x y a b
 does_one (Asked.Deactivate link) old p q x y a b =
-    let off = not (is_on (slice_get old.managed.kept link)) in
-    at_one (ManagesBy off (Deactivates link) link) old p q x y (λ u v. deactivates_one off link old.managed p q u v) a b
+    deactivates_one (not (is_on (slice_get old.managed.kept link))) link old p q x y a b
 does_one (Asked.Checkpoint quiet) old p q x y a b =
-    at_one (Checkpoints quiet) old p q x y (λ u v. checkpoints_one quiet old.managed p q u v) a b
+    at_one (Checkpoints quiet) old.watches old p q x y (λ u v. checkpoints_one quiet old.managed p q u v) a b
 does_one (Asked.Forget every told) old p q x y a b = (a.0 ∙ sym b.0, a.1 ∙ sym b.1)
-does_one Asked.History old p q x y a b = at_one TellsHistory old p q x y (λ u v. history_one old.managed p q u v) a b
+does_one (Asked.Events on) old p q x y a b = (a.0 ∙ sym b.0, a.1 ∙ sym b.1)
+does_one Asked.Counts old p q x y a b = at_one TellsCounts old.watches old p q x y (λ u v. counts_one old.managed p q u v) a b
+does_one Asked.History old p q x y a b = at_one TellsHistory old.watches old p q x y (λ u v. history_one old.managed p q u v) a b
 
 -- Lines.
 

@@ -5,6 +5,7 @@ use Rattle.l2_units.specs.declared.unit.Unit.{Unit as SignalUnit}
 use Rattle.terminal_text.specs.Showing.{Shown, is_silent, leading, leading_at, row_line, shown_behind, turn_lines, unit_line, words_or}
 use Rattle.terminal_text.specs.declared.rows.Row.{Row}
 use Rattle.terminal_text.specs.declared.rows.Rows.{Rows}
+use Rattle.terminal_text.specs.declared.stopping.Stopper.{Stopper}
 
 -- what is left to print: the row that may go on, and what these turns show behind it
 abbrev pub left_of : ℕ → Option Row → List Shown → List ℕ
@@ -30,14 +31,14 @@ pub record EndsRow (old new : Rows) : Type 0 where
   pub row_is : new.row ≡ None
 
 -- a turn is shown, but for its unit: where it shows something, the row ends before it
-pub record ShowsLines (old : Rows) (turn : TurnAndDeeds) (new : Rows) : Type 0 where
-  pub text_is : new.text.items ≡ old.text.items ++ (row_text old.link old.row ++ turn_lines old.link turn)
+pub record ShowsLines (old : Rows) (stopper : Stopper) (turn : TurnAndDeeds) (new : Rows) : Type 0 where
+  pub text_is : new.text.items ≡ old.text.items ++ (row_text old.link old.row ++ turn_lines old.link stopper turn)
   pub link_is : new.link ≡ old.link
   pub row_is : new.row ≡ None
 
-pub record ShowsTurn (old : Rows) (turn : TurnAndDeeds) (new : Rows) : Type 0 where
+pub record ShowsTurn (old : Rows) (stopper : Stopper) (turn : TurnAndDeeds) (new : Rows) : Type 0 where
   pub silent : is_silent turn ≡ true → new ≡ old
-  pub loud : is_silent turn ≡ false → ShowsLines old turn new
+  pub loud : is_silent turn ≡ false → ShowsLines old stopper turn new
 
 -- a unit is shown
 pub record AddsUnit (old : Rows) (unit : SignalUnit) (new : Rows) : Type 0 where

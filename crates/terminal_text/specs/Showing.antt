@@ -13,6 +13,8 @@ use Rattle.l2_units.specs.Numbers.{cause_number}
 use Rattle.l2_units.specs.declared.cause.Cause.{Cause}
 use Rattle.l2_units.specs.declared.unit.Unit.{Unit as SignalUnit}
 use Rattle.text_units.specs.UnitsText.{unit_words}
+use Rattle.terminal_text.specs.Stopping.{by_words}
+use Rattle.terminal_text.specs.declared.stopping.Stopper.{Stopper}
 
 -- THE WORDS for how a link stands
 abbrev pub word_name : LinkWord → List ℕ
@@ -36,17 +38,21 @@ over (suc n) xs = over n xs ++ xs
 abbrev pub message_line : ℕ → ℕ → List ℕ
 message_line link turn = codes "message " ++ (decimal link ++ (codes " turn=" ++ (decimal turn ++ codes "\n")))
 
--- a link that is out of service says why
-abbrev pub cause_words : LinkWord → Option Cause → List ℕ
-cause_words LinkWord.Out (Some cause) = codes " cause=" ++ decimal (cause_number cause)
-cause_words _ _ = []
+-- a link that is out of service says why, and one that was stopped who did that, unless its driver did
+abbrev pub stop_words : Cause → Stopper → List ℕ
+stop_words Cause.Stop stopper = by_words stopper
+stop_words _ stopper = []
+
+abbrev pub cause_words : LinkWord → Option Cause → Stopper → List ℕ
+cause_words LinkWord.Out (Some cause) stopper = codes " cause=" ++ (decimal (cause_number cause) ++ stop_words cause stopper)
+cause_words _ _ stopper = []
 
 abbrev pub link_words : ℕ → Turn → List ℕ
 link_words link turn =
     codes "link " ++ (decimal link ++ (codes " " ++ (word_name turn.after ++ (codes " turn=" ++ decimal turn.number))))
 
-abbrev pub link_line : ℕ → Turn → List ℕ
-link_line link turn = link_words link turn ++ (cause_words turn.after turn.cause ++ codes "\n")
+abbrev pub link_line : ℕ → Stopper → Turn → List ℕ
+link_line link stopper turn = link_words link turn ++ (cause_words turn.after turn.cause stopper ++ codes "\n")
 
 -- the words, counted: two are the same where their numbers are
 abbrev pub word_number : LinkWord → ℕ
@@ -107,12 +113,12 @@ deeds_lines link turn [] = []
 deeds_lines link turn (deed ∷ deeds) = deed_lines link turn deed ++ deeds_lines link turn deeds
 
 -- messages come first, then how the link stands, then what level 3 asked
-abbrev pub own_lines : ℕ → Turn → List ℕ
-own_lines link turn =
-    over turn.messages (message_line link turn.number) ++ (if stays turn then [] else link_line link turn)
+abbrev pub own_lines : ℕ → Stopper → Turn → List ℕ
+own_lines link stopper turn =
+    over turn.messages (message_line link turn.number) ++ (if stays turn then [] else link_line link stopper turn)
 
-abbrev pub turn_lines : ℕ → TurnAndDeeds → List ℕ
-turn_lines link heard = own_lines link heard.turn ++ deeds_lines link heard.turn.number heard.deeds
+abbrev pub turn_lines : ℕ → Stopper → TurnAndDeeds → List ℕ
+turn_lines link stopper heard = own_lines link stopper heard.turn ++ deeds_lines link heard.turn.number heard.deeds
 
 abbrev pub is_quiet : Turn → Bool
 is_quiet turn = (turn.messages == 0) && stays turn
@@ -120,9 +126,10 @@ is_quiet turn = (turn.messages == 0) && stays turn
 abbrev pub is_silent : TurnAndDeeds → Bool
 is_silent heard = is_quiet heard.turn && (length heard.deeds == 0)
 
--- WHAT IS SHOWN, one behind another: what a turn did, with the unit that it appended, if any; and the lines of a checkpoint
+-- WHAT IS SHOWN, one behind another: what a turn did, with the unit that it appended, if any, and who stopped the link, if it
+-- was stopped; and the lines of a checkpoint
 pub data Shown : Type 0 where
-  turned : HeardTurn → Shown
+  turned : Stopper → HeardTurn → Shown
   gone : List ℕ → Shown
 
 -- UNITS THAT WERE APPENDED. A row of units that read the same is one line, with how many they are: it ends where another
@@ -135,7 +142,7 @@ leading_at words (Some unit) later = if bytes_eq words (unit_words unit) then 1 
 
 abbrev pub leading : List ℕ → List Shown → ℕ
 leading words [] = 0
-leading words (turned heard ∷ more) =
+leading words (turned stopper heard ∷ more) =
     if is_silent heard.turn then leading_at words heard.unit (leading words more) else 0
 leading words (gone lines ∷ more) = 0
 
@@ -168,8 +175,8 @@ row_behind before turn = if is_silent turn then before else None
 abbrev pub shown_behind : ℕ → Option (List ℕ) → List Shown → List ℕ
 shown_behind link before [] = []
 shown_behind link before (gone lines ∷ more) = lines ++ shown_behind link None more
-shown_behind link before (turned heard ∷ more) =
-    turn_lines link heard.turn ++ (unit_line link (row_behind before heard.turn) heard.unit more
+shown_behind link before (turned stopper heard ∷ more) =
+    turn_lines link stopper heard.turn ++ (unit_line link (row_behind before heard.turn) heard.unit more
     ++ shown_behind link (words_or heard.unit (row_behind before heard.turn)) more)
 
 -- WHAT A LINE'S TURNS SHOW
@@ -178,11 +185,11 @@ shown link items = shown_behind link None items
 
 -- the same without the units
 abbrev pub without_unit : Shown → Shown
-without_unit (turned heard) = turned (record { turn = heard.turn; unit = None })
+without_unit (turned stopper heard) = turned stopper (record { turn = heard.turn; unit = None })
 without_unit (gone lines) = gone lines
 
 -- the turns among them
 abbrev pub turns_among : List Shown → List HeardTurn
 turns_among [] = []
-turns_among (turned heard ∷ more) = heard ∷ turns_among more
+turns_among (turned stopper heard ∷ more) = heard ∷ turns_among more
 turns_among (gone lines ∷ more) = turns_among more

@@ -88,7 +88,12 @@ pub record IsOpenedAnew (lengths : Timers) (settings : Settings) (end : EndState
 
 -- level 3 has these times
 abbrev pub timed : Times → ForgettingBench → ForgettingBench
-timed times old = record { managed = opened_end old.managed.bench (length old.managed.bench.links) times; plan = old.plan }
+timed times old = record {
+  managed = opened_end old.managed.bench (length old.managed.bench.links) times;
+  plan = old.plan;
+  watches = old.watches;
+  streams = old.streams;
+}
 
 pub record SetsTimes (told : LinkTimes) (old : ForgettingBench) (outcome : TerminalOutcome) : Type 0 where
   pub times : Times

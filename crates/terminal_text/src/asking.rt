@@ -1,14 +1,17 @@
 //! What a line asks for, done.
 ghost use Rattle.std.specs.Prelude.{◌≡◌, ◌<◌, ◌≤◌, IfOk, length, true};
 ghost use Rattle.set_model.specs.History.{IsActor};
-ghost use Rattle.text_forms.specs.declared.asked.Asked.TheVariants.{Forget};
+ghost use Rattle.text_forms.specs.declared.asked.Asked.TheVariants.{Command as Commanding, Event as Telling, Events as TellingStreams, Forget};
 ghost use Rattle.terminal_text.specs.Looking.{IsLookAt};
-ghost use Rattle.terminal_text.specs.Answers.{Asks, Checkpoints, CommandsBy, Does, Looks, TellsHistory, asker, is_below, is_refused, link_in, link_of_event};
+ghost use Rattle.terminal_text.specs.Answers.{Asks, Checkpoints, CommandsBy, Does, Looks, TellsCounts, TellsHistory, asker, is_below, is_refused, link_in, link_of_event, turn_at};
 
+use super::counting::write_counts;
 use super::fault::Want;
 use super::forgetting::{Forgetting, ForgettingBench, write_gone};
 use super::hearing::{hear_digits, hear_flags, hear_octets, hear_unit};
 use super::level3::{activate, deactivate};
+use super::moving::Places;
+use super::stopping::note_command;
 use super::words::{Look, write_look};
 use l2_units::Profile;
 use link_term::Command;
@@ -33,7 +36,11 @@ pub(crate) fn link_of(asked: &Asked) -> Option<u8>
         | Asked::Activate { link }
         | Asked::Deactivate { link } => Some(*link),
         Asked::Event { event } => link_of_event(event),
-        Asked::Checkpoint { .. } | Asked::Forget { .. } | Asked::History => None,
+        Asked::Checkpoint { .. }
+        | Asked::Forget { .. }
+        | Asked::Events { .. }
+        | Asked::Counts
+        | Asked::History => None,
     }
 }
 
@@ -67,21 +74,37 @@ pub(crate) fn ask_bench(
     requires few { length bench.old.managed.bench.links ≤ 16 }
     ensures { IfOk result (λ text. Does asked.now bench.old text.items bench.new) }
 {
-    let managed = &mut bench.managed;
     match asked {
-        Asked::Command { link, command } => Ok(obey(alloc, managed, *link, *command)?),
+        Asked::Command { link, command } => Ok(command_to(alloc, bench, *link, *command)?),
         Asked::Octets { link, octets } => hear_octets(alloc, bench, *link, octets.octets()),
         Asked::Hear { link, unit } => hear_unit(alloc, bench, *link, unit),
         Asked::Flags { link, times } => hear_flags(alloc, bench, *link, *times),
         Asked::Bits { link, bits } => hear_digits(alloc, bench, *link, bits),
-        Asked::Event { event } => Ok(ask(alloc, managed, event)?),
-        Asked::Look { link } => Ok(look(alloc, managed, *link)?),
-        Asked::Activate { link } => Ok(activate(alloc, managed, *link)?),
-        Asked::Deactivate { link } => Ok(deactivate(alloc, managed, *link)?),
-        Asked::Checkpoint { quiet } => Ok(checkpoint(alloc, managed, *quiet)?),
+        Asked::Event { event } => Ok(ask_told(alloc, bench, event)?),
+        Asked::Look { link } => Ok(look(alloc, &mut bench.managed, *link)?),
+        Asked::Activate { link } => Ok(activate(alloc, bench, *link)?),
+        Asked::Deactivate { link } => Ok(deactivate(alloc, bench, *link)?),
+        Asked::Checkpoint { quiet } => Ok(checkpoint(alloc, &mut bench.managed, *quiet)?),
         Asked::Forget { every, told } => forget(alloc, bench, *every, *told),
-        Asked::History => Ok(history(alloc, managed)?),
+        Asked::Events { on } => tell_streams(alloc, bench, *on),
+        Asked::Counts => Ok(counts(alloc, &mut bench.managed)?),
+        Asked::History => Ok(history(alloc, &mut bench.managed)?),
     }
+}
+
+/// A command to the terminal of a link: it's kept that the driver told it to stop.
+fn command_to(
+    alloc: Global,
+    bench: &mut ForgettingBench,
+    link: u8,
+    command: Command,
+) -> Result<Vec<u8>, Want>
+    requires there { link < length bench.old.managed.bench.links }
+    requires few { length bench.old.managed.bench.links ≤ 16 }
+    ensures { IfOk result (λ text. Does (Commanding link command) bench.old text.items bench.new) }
+{
+    note_command(&mut bench.watches, link, command);
+    obey(alloc, &mut bench.managed, link, command)
 }
 
 /// A command to the terminal of a link.
@@ -100,6 +123,42 @@ fn obey(
         Err(_) => b"refused 7\n",
     };
     Ok(Vec::from_slice(alloc, text)?)
+}
+
+/// An event of a terminal or of user 0, and where streams run then.
+fn ask_told(alloc: Global, bench: &mut ForgettingBench, event: &Event) -> Result<Vec<u8>, Want>
+    requires actor { IsActor (asker event.now) }
+    requires there { is_below (length bench.old.managed.bench.links) (link_of_event event.now) ≡ true }
+    ensures { IfOk result (λ text. Does (Telling event.now) bench.old text.items bench.new) }
+{
+    let turn = turn_at(&bench.managed, link_of_event(event));
+    let answer = ask(alloc, &mut bench.managed, event)?;
+    let mut text = bench.tell_moves(alloc, turn)?;
+    text.extend_from_slice(&answer)?;
+    Ok(text)
+}
+
+/// How many turns this link took; none is asked for: 0.
+fn turn_at(managed: &ManagedBench, link: Option<u8>) -> u64
+    requires { is_below (length managed.now.bench.links) link ≡ true }
+    ensures { result ≡ turn_at link managed.now }
+{
+    match link {
+        Some(link) => managed.bench().counts(link).turns,
+        None => 0,
+    }
+}
+
+/// From now on it's told where streams run, or no more.
+fn tell_streams(alloc: Global, bench: &mut ForgettingBench, on: bool) -> Result<Vec<u8>, Want>
+    ensures { IfOk result (λ text. Does (TellingStreams on) bench.old text.items bench.new) }
+{
+    bench.streams = if on {
+        Some(Places::of(alloc, bench.managed.bench().set())?)
+    } else {
+        None
+    };
+    Ok(Vec::from_slice(alloc, b"done\n")?)
 }
 
 /// An event of a terminal or of user 0.
@@ -164,6 +223,13 @@ fn forget(
 {
     bench.plan = Forgetting::from_now(every, told);
     Ok(Vec::from_slice(alloc, b"done\n")?)
+}
+
+/// How many messages stand where.
+fn counts(alloc: Global, bench: &mut ManagedBench) -> Result<Vec<u8>, Want>
+    ensures { IfOk result (λ text. TellsCounts bench.old text.items bench.new) }
+{
+    Ok(write_counts(alloc, bench.bench().set())?)
 }
 
 /// The entries since the base.

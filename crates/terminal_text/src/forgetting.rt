@@ -4,7 +4,9 @@ ghost use Rattle.terminal_text.specs.Forgetting.{checkpointed, gone_by, gone_tex
 ghost use Rattle.terminal_text.specs.Rows.{Shows};
 
 use super::fault::Want;
+use super::moving::Places;
 use super::rows::Rows;
+use super::stopping::{UNWATCHED, Watch};
 use l2_units::Profile;
 use set_core::SetCore;
 use std::alloc::{AllocError, Global};
@@ -63,30 +65,71 @@ impl Forgetting {
     }
 }
 
-/// One end whose links are managed, and the checkpoints that nobody asks for.
+/// One end whose links are managed, the checkpoints that nobody asks for, who told each link to stop, and where streams ran
+/// when that was told last, if it's told.
 #[derive(Drop)]
 pub(crate) struct ForgettingBench {
     pub(crate) managed: ManagedBench,
     pub(crate) plan: Forgetting,
+    pub(crate) watches: [Watch; 16],
+    pub(crate) streams: Option<Places>,
 }
 
 impl ForgettingBench {
-    ghost use Rattle.std.specs.Prelude.{◌≡◌, OnOk};
-    ghost use Rattle.terminal_text.specs.Forgetting.{IsForgotten, unasked};
+    ghost use Rattle.std.specs.Prelude.{◌≡◌, ◌≤◌, IfOk, OnOk, length};
+    ghost use Rattle.terminal_text.specs.Forgetting.{IsForgotten, IsOver, late_before, retold, unasked};
+    ghost use Rattle.terminal_text.specs.Moving.{moved};
 
-    /// This end, where nobody asked for any.
+    /// This end, where nobody asked for any, nor to tell of streams, nor told a link to stop.
     pub(crate) fn new(managed: ManagedBench) -> ForgettingBench
         ensures { result ≡ unasked managed }
     {
         ForgettingBench {
             managed,
             plan: Forgetting::never(),
+            watches: [UNWATCHED; 16],
+            streams: None,
         }
     }
 
-    /// A turn of a link was taken, and shown: the checkpoint that may be due behind it is taken, and shown.
+    /// How many changeover orders about this link the set has heard late.
     #[inline(always)]
-    pub(crate) fn end_turn(&mut self, rows: &mut Rows) -> Result<(), Want>
+    pub(crate) fn late(&self, link: u8) -> u32
+        ensures late { result ≡ late_before link self.now }
+        ensures few { length self.now.managed.bench.links ≤ 16 }
+    {
+        self.managed.bench().set().late(link)
+    }
+
+    /// A turn of this number was taken, and shown: where streams run then is shown, and the checkpoint that may be due behind
+    /// it is taken, and shown.
+    #[inline(always)]
+    pub(crate) fn end_turn(&mut self, turn: u64, rows: &mut Rows) -> Result<(), Want>
+        ensures { OnOk result (IsOver turn self.old self.new rows.old rows.new) }
+    {
+        let lines = self.tell_moves(rows.alloc(), turn)?;
+        rows.show_moved(&lines)?;
+        self.forget_turn(rows)
+    }
+
+    /// Where streams run that ran elsewhere when it was told last, behind the turn of this number: the lines.
+    pub(crate) fn tell_moves(&mut self, alloc: Global, turn: u64) -> Result<Vec<u8>, AllocError>
+        ensures lines { IfOk result (λ lines. lines.items
+            ≡ moved turn self.old.streams self.old.managed.bench.set.state) }
+        ensures told { IfOk result (λ lines. self.new ≡ retold self.old) }
+    {
+        let Some(was) = &self.streams else {
+            return Ok(Vec::new(alloc));
+        };
+        let set = self.managed.bench().set();
+        let lines = was.write_moves(alloc, set, turn)?;
+        self.streams = Some(Places::of(alloc, set)?);
+        Ok(lines)
+    }
+
+    /// The checkpoint that may be due behind a turn is taken, and shown.
+    #[inline(always)]
+    fn forget_turn(&mut self, rows: &mut Rows) -> Result<(), Want>
         ensures { OnOk result (IsForgotten self.old self.new rows.old rows.new) }
     {
         if self.plan.take_turn() {

@@ -10,6 +10,7 @@ ghost use Rattle.terminal_text.specs.Showing.{over};
 use super::fault::Want;
 use super::forgetting::ForgettingBench;
 use super::rows::Rows;
+use super::stopping::note_turn;
 use arrayvec::ArrayVec;
 use l2_bits::{flag_into, seal, stuff_into};
 use l2_units::LONGEST_UNIT;
@@ -58,10 +59,12 @@ fn hear_octet(
     ensures { OnOk result (Exchanging link (bits_of 8 octet ∷ []) bench.old bench.new rows.old rows.new
         put.old.items put.new.items) }
 {
+    let late = bench.late(link);
     let turn = bench.managed.hear_octet(link, octet, &mut NoTap)?;
     put.push(turn.turn().put)?;
-    rows.show(&turn, None)?;
-    bench.end_turn(rows)
+    let stopper = note_turn(&mut bench.watches, link, late, turn.deeds());
+    rows.show(&turn, stopper, None)?;
+    bench.end_turn(turn.turn().number, rows)
 }
 
 /// Adds the octets that were put.
@@ -195,16 +198,18 @@ fn hear_bit(
     requires { link < length bench.old.managed.bench.links }
     ensures { OnOk result (Hears link ((bit ∷ []) ∷ []) bench.old bench.new hearing.old hearing.new) }
 {
+    let late = bench.late(link);
     let Some(turn) = bench.managed.hear_bit(link, bit, &mut hearing.tap)? else {
         return Ok(());
     };
     hearing.turns = one_more(hearing.turns)?;
+    let stopper = note_turn(&mut bench.watches, link, late, turn.deeds());
     if turn.turn().sent == 0 {
-        hearing.rows.show(&turn, None)?;
-        bench.end_turn(&mut hearing.rows)
+        hearing.rows.show(&turn, stopper, None)?;
+        bench.end_turn(turn.turn().number, &mut hearing.rows)
     } else {
-        hearing.rows.show(&turn, hearing.tap.unit())?;
-        bench.end_turn(&mut hearing.rows)
+        hearing.rows.show(&turn, stopper, hearing.tap.unit())?;
+        bench.end_turn(turn.turn().number, &mut hearing.rows)
     }
 }
 

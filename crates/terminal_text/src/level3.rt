@@ -1,52 +1,67 @@
 //! What level 3 asked, as it's printed; and a link that it manages from now on, or no more.
-ghost use Rattle.std.specs.Prelude.{◌≡◌, ◌<◌, ◌++◌, IfOk, OnOk, codes, decimal, length, not};
-ghost use Rattle.std.specs.Prelude.{slice_get};
-ghost use Rattle.term_managed.specs.Ends.{is_on};
-ghost use Rattle.term_managed.specs.Turns.{Activates, Deactivates};
-ghost use Rattle.terminal_text.specs.Answers.{ManagesBy};
+ghost use Rattle.std.specs.Prelude.{◌≡◌, ◌<◌, ◌++◌, IfOk, OnOk, codes, decimal, length};
+ghost use Rattle.text_forms.specs.declared.asked.Asked.TheVariants.{Activate, Deactivate};
+ghost use Rattle.terminal_text.specs.Answers.{Does, IsManaged};
 ghost use Rattle.terminal_text.specs.Showing.{answer_words, deed_lines, deeds_lines, in_emergency, is_command, level3_line, what_name};
 
 use super::fault::Want;
+use super::forgetting::ForgettingBench;
+use super::stopping::note_deeds;
 use l3_link::Ask;
 use set_events::Refusal;
 use std::alloc::{AllocError, Global};
-use term_managed::{Deed, ManageFault, ManagedBench};
+use term_managed::{Deed, ManageFault};
 use text_base::push_number;
 
 /// Level 3 manages this link from now on: what it asked, and the answer.
-pub(crate) fn activate(alloc: Global, bench: &mut ManagedBench, link: u8) -> Result<Vec<u8>, Want>
-    requires { link < length bench.old.bench.links }
-    ensures { IfOk result (λ text. ManagesBy (is_on (slice_get bench.old.kept link)) (Activates link) link bench.old
-        text.items bench.new) }
+pub(crate) fn activate(
+    alloc: Global,
+    bench: &mut ForgettingBench,
+    link: u8,
+) -> Result<Vec<u8>, Want>
+    requires { link < length bench.old.managed.bench.links }
+    ensures { IfOk result (λ text. Does (Activate link) bench.old text.items bench.new) }
 {
-    let turns = bench.bench().counts(link).turns;
-    match bench.activate(link) {
-        Ok(deeds) => write_managed(alloc, link, turns, &deeds),
+    let turns = bench.managed.bench().counts(link).turns;
+    match bench.managed.activate(link) {
+        Ok(deeds) => write_managed(alloc, bench, link, turns, &deeds),
         Err(ManageFault::AlreadySo) => Ok(Vec::from_slice(alloc, b"refused 9\n")?),
         Err(ManageFault::Set { .. }) => Err(Want),
     }
 }
 
 /// Level 3 manages this link no more: what it asked, and the answer.
-pub(crate) fn deactivate(alloc: Global, bench: &mut ManagedBench, link: u8) -> Result<Vec<u8>, Want>
-    requires { link < length bench.old.bench.links }
-    ensures { IfOk result (λ text. ManagesBy (not (is_on (slice_get bench.old.kept link))) (Deactivates link) link
-        bench.old text.items bench.new) }
+pub(crate) fn deactivate(
+    alloc: Global,
+    bench: &mut ForgettingBench,
+    link: u8,
+) -> Result<Vec<u8>, Want>
+    requires { link < length bench.old.managed.bench.links }
+    ensures { IfOk result (λ text. Does (Deactivate link) bench.old text.items bench.new) }
 {
-    let turns = bench.bench().counts(link).turns;
-    match bench.deactivate(link) {
-        Ok(deeds) => write_managed(alloc, link, turns, &deeds),
+    let turns = bench.managed.bench().counts(link).turns;
+    match bench.managed.deactivate(link) {
+        Ok(deeds) => write_managed(alloc, bench, link, turns, &deeds),
         Err(ManageFault::AlreadySo) => Ok(Vec::from_slice(alloc, b"refused 9\n")?),
         Err(ManageFault::Set { .. }) => Err(Want),
     }
 }
 
-/// The lines of what was asked, and that it was done.
-fn write_managed(alloc: Global, link: u8, turns: u64, deeds: &[Deed]) -> Result<Vec<u8>, Want>
-    ensures { IfOk result (λ text. text.items ≡ deeds_lines link turns deeds.now ++ codes "done\n") }
+/// The lines of what was asked, where streams run then, and that it was done; who told the link to stop is kept.
+fn write_managed(
+    alloc: Global,
+    bench: &mut ForgettingBench,
+    link: u8,
+    turns: u64,
+    deeds: &[Deed],
+) -> Result<Vec<u8>, Want>
+    requires { link < 16 }
+    ensures { IfOk result (λ text. IsManaged link turns deeds.now bench.old text.items bench.new) }
 {
+    note_deeds(&mut bench.watches, link, deeds);
     let mut text = Vec::new(alloc);
     push_deeds(&mut text, link, turns, deeds)?;
+    text.extend_from_slice(&bench.tell_moves(alloc, turns)?)?;
     text.extend_from_slice(b"done\n")?;
     Ok(text)
 }

@@ -17,11 +17,15 @@
 //! has one, and what it says of a set or a link is so (`specs/Reasons.antt`). A line of over 4,096 octets isn't kept, and so
 //! not shown.
 //!
+//! A link that goes out since it was stopped tells who did that (`specs/Stopping.antt`). After `events on` it's told where
+//! streams run, where that changes (`specs/Moving.antt`).
+//!
 //! [`terminal_kept`] and [`terminal_kept_explained`] answer a line at fault and go on from what the lines before it left
 //! (`specs/Kept.antt`).
 #![tactic(auto)]
 
 mod asking;
+mod counting;
 mod explaining;
 mod fault;
 mod forgetting;
@@ -29,9 +33,11 @@ mod hearing;
 mod kept;
 mod laws;
 mod level3;
+mod moving;
 mod named;
 mod open_end;
 mod rows;
+mod stopping;
 mod text;
 mod words;
 

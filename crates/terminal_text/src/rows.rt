@@ -1,12 +1,13 @@
 //! What the turns of one line of the input show, as it's printed.
 ghost use Rattle.std.specs.Prelude.{◌≡◌, ◌++◌, [], ◌∷◌, None, false, IfOk, OnOk};
 ghost use Rattle.std.specs.Option.{option_map};
-ghost use Rattle.terminal_text.specs.Forgetting.{gone_text};
+ghost use Rattle.terminal_text.specs.Forgetting.{gone_text, lines_behind};
 ghost use Rattle.terminal_text.specs.Showing.{gone, turned};
 ghost use Rattle.terminal_text.specs.Rows.{AddsUnit, EndsRow, Shows, ShowsTurn, left_of};
 
 use super::fault::Want;
 use super::forgetting::write_gone;
+use super::stopping::Stopper;
 use super::words::{is_silent, push_row, push_turn};
 use l2_units::Unit;
 use std::alloc::Global;
@@ -45,12 +46,18 @@ impl Rows {
         }
     }
 
-    /// Shows what a turn did, and the unit that it appended, if it did and units are shown.
-    pub(crate) fn show(&mut self, turn: &ManagedTurn, unit: Option<&Unit>) -> Result<(), Want>
+    /// Shows what a turn did, who stopped the link, if it was stopped, and the unit that it appended, if it did and units are
+    /// shown.
+    pub(crate) fn show(
+        &mut self,
+        turn: &ManagedTurn,
+        stopper: Stopper,
+        unit: Option<&Unit>,
+    ) -> Result<(), Want>
         ensures { OnOk result (Shows self.old
-            (turned (record { turn = turn.now; unit = option_map (λ u. u.now) unit.entry }) ∷ []) self.new) }
+            (turned stopper (record { turn = turn.now; unit = option_map (λ u. u.now) unit.entry }) ∷ []) self.new) }
     {
-        self.show_lines(turn)?;
+        self.show_lines(turn, stopper)?;
         match unit {
             Some(unit) => self.add(unit),
             None => Ok(()),
@@ -58,14 +65,14 @@ impl Rows {
     }
 
     /// Shows what a turn did, but for its unit: where that is something, the row ends before it.
-    fn show_lines(&mut self, turn: &ManagedTurn) -> Result<(), Want>
-        ensures { OnOk result (ShowsTurn self.old turn.now self.new) }
+    fn show_lines(&mut self, turn: &ManagedTurn, stopper: Stopper) -> Result<(), Want>
+        ensures { OnOk result (ShowsTurn self.old stopper turn.now self.new) }
     {
         if is_silent(turn) {
             return Ok(());
         }
         self.end_row()?;
-        push_turn(&mut self.text, self.link, turn)?;
+        push_turn(&mut self.text, self.link, stopper, turn)?;
         Ok(())
     }
 
@@ -109,6 +116,24 @@ impl Rows {
         self.end_row()?;
         self.text.extend_from_slice(&lines)?;
         Ok(())
+    }
+
+    /// Shows where streams run then: where that is something, the row ends before it.
+    #[tactic(auto, using(crate::proofs::RowLemmas::lines_shown, crate::proofs::RowLemmas::no_lines_shown))]
+    pub(crate) fn show_moved(&mut self, lines: &[u8]) -> Result<(), Want>
+        ensures { OnOk result (Shows self.old (lines_behind lines.now) self.new) }
+    {
+        if lines.is_empty() {
+            return Ok(());
+        }
+        self.end_row()?;
+        self.text.extend_from_slice(lines)?;
+        Ok(())
+    }
+
+    /// Where memory for what is shown comes from.
+    pub(crate) fn alloc(&self) -> Global {
+        self.alloc
     }
 
     /// Nothing more is shown: what is printed.

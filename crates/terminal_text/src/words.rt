@@ -3,9 +3,10 @@ ghost use Rattle.std.specs.Prelude.{◌≡◌, ◌++◌, IfOk, OnOk, codes, deci
 ghost use Rattle.term_bench.specs.Ends.{AtLink};
 ghost use Rattle.terminal_text.specs.Answers.{cause_or_0, counts_words, look_text, phase_name, standing_words};
 ghost use Rattle.terminal_text.specs.Looking.{IsLook};
-ghost use Rattle.terminal_text.specs.Showing.{cause_words, is_silent, is_quiet, link_line, link_words, message_line, over, own_lines, row_line, stays, times_words, turn_lines, word_name};
+ghost use Rattle.terminal_text.specs.Showing.{cause_words, is_silent, is_quiet, link_line, link_words, message_line, over, own_lines, row_line, stays, stop_words, times_words, turn_lines, word_name};
 
 use super::level3::push_deeds;
+use super::stopping::{Stopper, by_words};
 use l2_units::Cause;
 use std::alloc::{AllocError, Global};
 use term_bench::{LinkWord, Phase, Turn, TurnCounts};
@@ -52,21 +53,26 @@ fn is_quiet(turn: &Turn) -> bool
 }
 
 /// Adds the lines of a turn: its own, and of what level 3 asked behind it.
-pub(crate) fn push_turn(out: &mut Vec<u8>, link: u8, heard: &ManagedTurn) -> Result<(), AllocError>
-    ensures { OnOk result (out.new.items ≡ out.old.items ++ turn_lines link heard.now) }
+pub(crate) fn push_turn(
+    out: &mut Vec<u8>,
+    link: u8,
+    stopper: Stopper,
+    heard: &ManagedTurn,
+) -> Result<(), AllocError>
+    ensures { OnOk result (out.new.items ≡ out.old.items ++ turn_lines link stopper heard.now) }
 {
     let turn = heard.turn();
-    push_own(out, link, turn)?;
+    push_own(out, link, stopper, turn)?;
     push_deeds(out, link, turn.number, heard.deeds())
 }
 
 /// Adds the turn's own lines: a line for each message, and how the link stands where that has changed.
-fn push_own(out: &mut Vec<u8>, link: u8, turn: &Turn) -> Result<(), AllocError>
-    ensures { OnOk result (out.new.items ≡ out.old.items ++ own_lines link turn.now) }
+fn push_own(out: &mut Vec<u8>, link: u8, stopper: Stopper, turn: &Turn) -> Result<(), AllocError>
+    ensures { OnOk result (out.new.items ≡ out.old.items ++ own_lines link stopper turn.now) }
 {
     push_messages(out, link, turn)?;
     if !stays(turn) {
-        push_link(out, link, turn)?;
+        push_link(out, link, stopper, turn)?;
     }
     Ok(())
 }
@@ -93,11 +99,11 @@ fn push_message(out: &mut Vec<u8>, link: u8, turn: u64) -> Result<(), AllocError
 }
 
 /// Adds how the link stands.
-fn push_link(out: &mut Vec<u8>, link: u8, turn: &Turn) -> Result<(), AllocError>
-    ensures { OnOk result (out.new.items ≡ out.old.items ++ link_line link turn.now) }
+fn push_link(out: &mut Vec<u8>, link: u8, stopper: Stopper, turn: &Turn) -> Result<(), AllocError>
+    ensures { OnOk result (out.new.items ≡ out.old.items ++ link_line link stopper turn.now) }
 {
     out.extend_from_slice(&write_link(*out.allocator(), link, turn)?)?;
-    push_cause(out, turn.after, turn.cause)?;
+    push_cause(out, turn.after, turn.cause, stopper)?;
     out.extend_from_slice(b"\n")
 }
 
@@ -110,16 +116,39 @@ fn write_link(alloc: Global, link: u8, turn: &Turn) -> Result<Vec<u8>, AllocErro
     Ok(format!(in alloc; "link {link} {name} turn={number}")?.into_bytes())
 }
 
-/// Adds why a link is out of service.
-fn push_cause(out: &mut Vec<u8>, word: LinkWord, cause: Option<Cause>) -> Result<(), AllocError>
-    ensures { OnOk result (out.new.items ≡ out.old.items ++ cause_words word cause) }
+/// Adds why a link is out of service, and who stopped it.
+fn push_cause(
+    out: &mut Vec<u8>,
+    word: LinkWord,
+    cause: Option<Cause>,
+    stopper: Stopper,
+) -> Result<(), AllocError>
+    ensures { OnOk result (out.new.items ≡ out.old.items ++ cause_words word cause stopper) }
 {
     match (word, cause) {
         (LinkWord::Out, Some(cause)) => {
             out.extend_from_slice(b" cause=")?;
-            push_number(out, u64::from(cause.number()))
+            push_number(out, u64::from(cause.number()))?;
+            push_stopper(out, cause, stopper)
         }
         _ => Ok(()),
+    }
+}
+
+/// Adds who stopped a link that is out of service for this cause, if it was stopped.
+fn push_stopper(out: &mut Vec<u8>, cause: Cause, stopper: Stopper) -> Result<(), AllocError>
+    ensures { OnOk result (out.new.items ≡ out.old.items ++ stop_words cause stopper) }
+{
+    match cause {
+        Cause::Stop => out.extend_from_slice(by_words(stopper).as_bytes()),
+        Cause::Suerm
+        | Cause::Bsn
+        | Cause::Fib
+        | Cause::T1
+        | Cause::T6
+        | Cause::T7
+        | Cause::Status
+        | Cause::NotPossible => Ok(()),
     }
 }
 

@@ -12,10 +12,10 @@ use Rattle.text_forms.specs.declared.at_link.LinkEvent.TheVariants.{NoAnswer, Ti
 use Rattle.text_forms.specs.declared.mistake.Mistake.{Mistake}
 use Rattle.text_forms.specs.declared.mistake.Mistake.TheVariants.{SecondSet, Terminal}
 use Rattle.text_forms.specs.declared.named.Named.TheVariants.{Times, Flags, Turns}
-use Rattle.text_forms.specs.declared.terminal_mistake.TerminalMistake.TheVariants.{UnknownWord, TimersPlace, Level3Place, LinkWants, OctetsWants, HearWants, FlagsWants, BitsWants, FindWants, ForgetWants}
+use Rattle.text_forms.specs.declared.terminal_mistake.TerminalMistake.TheVariants.{UnknownWord, TimersPlace, Level3Place, LinkWants, OctetsWants, HearWants, FlagsWants, BitsWants, FindWants, ForgetWants, EventsWants}
 use Rattle.text_forms.specs.declared.words.Blame.{Blame}
 use Rattle.text_forms.specs.Words.{Read, Rest, at_place, at_place_or, at_end, behind_name, first_word, judged, read_then}
-use Rattle.text_forms.specs.Places.{a_link, a_named, a_number, a_quiet, a_told, bits as bits_place, octets as octets_place}
+use Rattle.text_forms.specs.Places.{a_link, a_named, a_number, a_quiet, a_switch, a_told, bits as bits_place, octets as octets_place}
 use Rattle.text_forms.specs.Moves.{event_on}
 use Rattle.text_forms.specs.Timers.{timers_read}
 use Rattle.text_forms.specs.Times.{times_read}
@@ -57,6 +57,10 @@ flags = at_place a_link (λ link. at_place (a_named Flags) (λ times. at_end (As
 -- forget N, or forget N told
 abbrev pub forget : Rest → Read Asked
 forget = at_place (a_named Turns) (λ every. at_place_or a_told false (λ told. at_end (Asked.Forget every told)))
+
+-- events on, or events off
+abbrev pub events : Rest → Read Asked
+events = at_place a_switch (λ on. at_end (Asked.Events on))
 
 -- What a word asks of a link: look L, a command, or an event of its terminal.
 
@@ -115,6 +119,7 @@ asked_by name behind =
     if bytes_eq name (codes "take") then at_end (Asked.Event Take) (behind (Terminal LinkWants))
     else (if bytes_eq name (codes "checkpoint") then checkpoint (behind (Terminal LinkWants))
     else (if bytes_eq name (codes "history") then at_end Asked.History (behind (Terminal LinkWants))
+    else (if bytes_eq name (codes "counts") then at_end Asked.Counts (behind (Terminal LinkWants))
     else (if bytes_eq name (codes "offer") then offered (behind (Terminal OctetsWants))
     else (if bytes_eq name (codes "octets") then octets (behind (Terminal OctetsWants))
     else (if bytes_eq name (codes "hear") then hear (behind (Terminal HearWants))
@@ -122,7 +127,8 @@ asked_by name behind =
     else (if bytes_eq name (codes "find") then find (behind (Terminal FindWants))
     else (if bytes_eq name (codes "flags") then flags (behind (Terminal FlagsWants))
     else (if bytes_eq name (codes "forget") then forget (behind (Terminal ForgetWants))
-    else asked_of_link (of_link_of name) name behind)))))))))
+    else (if bytes_eq name (codes "events") then events (behind (Terminal EventsWants))
+    else asked_of_link (of_link_of name) name behind)))))))))))
 
 -- WHAT A LINE ASKS FOR, or the word at fault
 abbrev pub asked_read : List ℕ → Read Asked

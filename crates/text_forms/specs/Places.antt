@@ -13,7 +13,7 @@ use Rattle.text_base.specs.Figures.{number_of, hex_value, octets_of}
 use Rattle.text_forms.specs.declared.mistake.Mistake.{Mistake}
 use Rattle.text_forms.specs.declared.mistake.Mistake.TheVariants.{End, Link, Number, OddDigits, NotHexadecimal, UnitShort, WideUnitShort, UnitLong, UnitLength, WideUnitLength, Terminal}
 use Rattle.text_forms.specs.declared.terminal_mistake.TerminalMistake.{TerminalMistake}
-use Rattle.text_forms.specs.declared.terminal_mistake.TerminalMistake.TheVariants.{Bits, UnitName, Body, FirstBody, Quiet, Told, Number as NoNumber}
+use Rattle.text_forms.specs.declared.terminal_mistake.TerminalMistake.TheVariants.{Bits, UnitName, Body, FirstBody, Quiet, Told, Switch, Number as NoNumber}
 use Rattle.text_forms.specs.declared.named.Named.{Named}
 use Rattle.text_forms.specs.Named.{named_of}
 use Rattle.text_forms.specs.Words.{Place, value_in}
@@ -88,6 +88,13 @@ a_quiet = a_flag (codes "quiet") Quiet
 
 abbrev pub a_told : Place Bool
 a_told = a_flag (codes "told") Told
+
+-- on or off
+abbrev pub switch_of : List ℕ → Option Bool
+switch_of word = if bytes_eq word (codes "on") then Some true else (if bytes_eq word (codes "off") then Some false else None)
+
+abbrev pub a_switch : Place Bool
+a_switch = record { value = switch_of; wrong = λ word. Terminal Switch }
 
 -- digits 0 (48) and 1 (49), at least one
 abbrev pub is_bit : ℕ → Bool

@@ -33,8 +33,12 @@ pub enum Asked {
     /// A checkpoint of the set behind each so many turns of all links together, or none any more where that is 0; the
     /// entries that go are printed where they are to be told.
     Forget { every: u32, told: bool },
+    /// From now on it's told where streams run, where that changes; or no more.
+    Events { on: bool },
     /// The entries of the set's history since its base.
     History,
+    /// How many messages stand where, and how long the history is.
+    Counts,
 }
 
 /// Octets, or bits, that stand there so often, 1 to 2^20 times.

@@ -4,7 +4,7 @@ ghost use Rattle.std.specs.Result.{result_err};
 ghost use Rattle.text_forms.specs.Timers.{timers_read};
 ghost use Rattle.text_forms.specs.Times.{times_read};
 ghost use Rattle.text_forms.specs.Words.{IsRead, at_end};
-ghost use Rattle.text_forms.specs.Asking.{asked_read, bits, blamed_line, checkpoint, find, flags, forget, hear, octets, of_link, offered, wrong_first};
+ghost use Rattle.text_forms.specs.Asking.{asked_read, bits, blamed_line, checkpoint, events, find, flags, forget, hear, octets, of_link, offered, wrong_first};
 
 use super::asked::{Asked, OfLink, Repeated, find_of_link};
 use super::early::Early;
@@ -36,6 +36,9 @@ pub fn read_asked(alloc: Global, text: &[u8]) -> Result<Asked, Unread>
     if is_word(name, b"history") {
         return Ok(read_alone(Asked::History, behind(TerminalMistake::LinkWants))?);
     }
+    if is_word(name, b"counts") {
+        return Ok(read_alone(Asked::Counts, behind(TerminalMistake::LinkWants))?);
+    }
     if is_word(name, b"offer") {
         return read_offer(alloc, behind(TerminalMistake::OctetsWants));
     }
@@ -56,6 +59,9 @@ pub fn read_asked(alloc: Global, text: &[u8]) -> Result<Asked, Unread>
     }
     if is_word(name, b"forget") {
         return Ok(read_forget(behind(TerminalMistake::ForgetWants))?);
+    }
+    if is_word(name, b"events") {
+        return Ok(read_events(behind(TerminalMistake::EventsWants))?);
     }
     match find_of_link(name) {
         Some(what) => Ok(read_of_link(what, behind(TerminalMistake::LinkWants))?),
@@ -193,6 +199,15 @@ fn read_forget(mut words: Words<'_>) -> Result<Asked, Blame>
         every: every as u32,
         told,
     })
+}
+
+/// `events on`, or `events off`
+fn read_events(mut words: Words<'_>) -> Result<Asked, Blame>
+    ensures { result ≡ events words.entry }
+{
+    let on = words.switch()?;
+    words.finish()?;
+    Ok(Asked::Events { on })
 }
 
 /// What a word asks of a link.

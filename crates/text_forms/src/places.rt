@@ -5,7 +5,7 @@ ghost use Rattle.std.specs.Option.{option_and_then, option_map};
 ghost use Rattle.l2_units.specs.Grammar.{unit_of as unit_of_octets};
 ghost use Rattle.l2_units.specs.declared.profile.Profile.TheVariants.{Narrow, Wide};
 ghost use Rattle.text_forms.specs.Words.{read_as, IsRead};
-ghost use Rattle.text_forms.specs.Places.{any_unit, end_of, link_of, some_octets, unit_of, is_hex, wrong_digits, wrong_length, bits_of, is_bit, body_of, short_enough, wrong_any_unit, wrong_body};
+ghost use Rattle.text_forms.specs.Places.{any_unit, end_of, link_of, some_octets, unit_of, is_hex, wrong_digits, wrong_length, bits_of, is_bit, switch_of, body_of, short_enough, wrong_any_unit, wrong_body};
 
 use super::mistake::Mistake;
 use super::named::Named;
@@ -21,7 +21,7 @@ impl<'a> Words<'a> {
     ghost use Rattle.std.specs.Prelude.{◌≡◌, ◌≤◌, ◌^◌, [], IfOk, false};
     ghost use Rattle.text_forms.specs.Words.{behind, next_at, next_or, IsRead};
     ghost use Rattle.text_forms.specs.Named.{least, most};
-    ghost use Rattle.text_forms.specs.Places.{an_end, a_link, a_number, octets, a_unit, a_flag, a_named, a_quiet, a_told, bits, a_body};
+    ghost use Rattle.text_forms.specs.Places.{an_end, a_link, a_number, octets, a_unit, a_flag, a_named, a_quiet, a_switch, a_told, bits, a_body};
     ghost use Rattle.text_forms.specs.Units.{begins_head};
 
     /// An end, a or b.
@@ -170,6 +170,18 @@ impl<'a> Words<'a> {
         self.flag(b"told", TerminalMistake::Told)
     }
 
+    /// `on` or `off`.
+    pub(crate) fn switch(&mut self) -> Result<bool, Blame>
+        ensures value { result ≡ next_at a_switch self.old }
+        ensures behind { self.new ≡ behind self.old }
+    {
+        let word = self.word()?;
+        match read_switch(word.octets()) {
+            Some(on) => Ok(on),
+            None => Err(word.blame(Mistake::Terminal(TerminalMistake::Switch))),
+        }
+    }
+
     /// A word that stands for yes, or nothing where the line ends; another word is this mistake.
     fn flag(&mut self, name: &[u8], wrong: TerminalMistake) -> Result<bool, Blame>
         ensures value { result ≡ next_or (a_flag name.now wrong) false self.old }
@@ -239,6 +251,19 @@ fn read_end(word: &[u8]) -> Option<End>
         Some(End::A)
     } else if is_word(word, b"b") {
         Some(End::B)
+    } else {
+        None
+    }
+}
+
+/// `on` or `off`.
+fn read_switch(word: &[u8]) -> Option<bool>
+    ensures { result ≡ switch_of word.now }
+{
+    if is_word(word, b"on") {
+        Some(true)
+    } else if is_word(word, b"off") {
+        Some(false)
     } else {
         None
     }

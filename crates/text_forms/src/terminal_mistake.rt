@@ -33,6 +33,8 @@ pub enum TerminalMistake {
     FindWants,
     /// `forget` without its number.
     ForgetWants,
+    /// `events` without `on` or `off`.
+    EventsWants,
     /// Bits that aren't digits 0 and 1.
     Bits,
     /// A unit that is neither of a kind nor octets.
@@ -45,6 +47,8 @@ pub enum TerminalMistake {
     Quiet,
     /// A word behind the number of `forget` that isn't `told`.
     Told,
+    /// A word behind `events` that is neither `on` nor `off`.
+    Switch,
     /// A word that isn't this number in its range.
     Number(Named),
 }
@@ -57,7 +61,7 @@ impl TerminalMistake {
         match self {
             TerminalMistake::Wide => "the set of a terminal has the narrow profile",
             TerminalMistake::UnknownWord =>
-                "a line begins with start, stop, emergency, calm, busy, ease, blind, outage, recover, octets, hear, flags, bits, offer, take, find, noanswer, timed, restore, redeclare, backtimeout, test, activate, deactivate, look, checkpoint, forget or history",
+                "a line begins with start, stop, emergency, calm, busy, ease, blind, outage, recover, octets, hear, flags, bits, offer, take, find, noanswer, timed, restore, redeclare, backtimeout, test, activate, deactivate, look, counts, checkpoint, forget, events or history",
             TerminalMistake::TimersPlace => "timers is the line behind the first, and no other",
             TerminalMistake::TimersWants =>
                 "timers wants six words behind it: t1=N t2=N t3=N t5=N t6=N t7=N",
@@ -74,6 +78,7 @@ impl TerminalMistake {
             TerminalMistake::BitsWants => "bits wants a link, and digits 0 and 1",
             TerminalMistake::FindWants => "find wants the number of a message",
             TerminalMistake::ForgetWants => "forget wants a number of turns",
+            TerminalMistake::EventsWants => "events wants on or off behind it",
             TerminalMistake::Bits => "bits are digits 0 and 1",
             TerminalMistake::UnitName =>
                 "a unit is fisu, lssu, msu, or octets of two hexadecimal digits",
@@ -83,6 +88,7 @@ impl TerminalMistake {
                 "here stands body=HEX, 3 to 273 octets of two hexadecimal digits, or bsn=B and the rest of a header",
             TerminalMistake::Quiet => "here stands quiet, where the entries aren't to be printed",
             TerminalMistake::Told => "here stands told, where the entries are to be printed",
+            TerminalMistake::Switch => "here stands on or off",
             TerminalMistake::Number(named) => named.text(),
         }
     }
