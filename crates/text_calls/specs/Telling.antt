@@ -14,7 +14,8 @@ use Rattle.text_calls.specs.declared.telling.TextRefusal.TheVariants.{NoMemory, 
 abbrev pub IsLines : List ℕ → Type 0
 IsLines told = (shown : List ℕ) × (told ≡ shown ++ 10 ∷ [])
 
--- what is told of how it ended: nothing, or the lines of the input's fault; over memory nothing else can be at fault
+-- what is told of how it ended: nothing, or, where the input is at fault, lines, whose words aren't stated; over memory
+-- nothing else can be at fault
 abbrev pub IsToldOfEnd : Result (Unit {0}) (Fault TextFault) → List ℕ → Type 0
 IsToldOfEnd (Ok done) told = told ≡ []
 IsToldOfEnd (Err (Input fault)) told = IsLines told

@@ -56,7 +56,8 @@ struct Made {
 }
 
 /// Puts what the subcommand of this number ([`words_of_number`]) prints of the input at the front of one buffer, and the
-/// lines that tell of a fault at the front of another one: nothing where it ended well.
+/// lines that tell of a fault at the front of another one: nothing where it ended well. The contract states that they are
+/// lines, not their words.
 ///
 /// With [`TextRefusal::NoRoom`] the lengths are those that are wanted, and the buffers as they were.
 pub fn tell(
