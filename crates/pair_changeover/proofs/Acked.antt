@@ -60,7 +60,7 @@ pub record AckedFirst (l : ℕ) (sent : List Message) (s : State) : Type 0 where
   pub going : (link : LinkState) → slice_get s.links l ≡ Some link → has_phase_settled link.phase ≡ false → IsRest l link s.rows sent
 
 abbrev message_of : Row → Message
-message_of row = record { number = row.number; body = row.body }
+message_of row = record { number = row.number; body = row.body; users = row.users }
 
 all_then : {X : Type 0} (P Q : X → Type 0) → ((x : X) → P x → Q x) → (xs : List X) → All P xs → All Q xs
 all_then P Q f [] all = All-nil Q

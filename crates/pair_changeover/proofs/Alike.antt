@@ -55,7 +55,7 @@ sent_not_back k l (Discarded cause) e = refl
 fated_alike : (f g : Row → Fate) → ((row : Row) → f row ≡ g row) → (rows : List Row) → map (fated f) rows ≡ map (fated g) rows
 fated_alike f g same [] = refl
 fated_alike f g same (row ∷ rows) =
-    ap (λ (fate : Fate). record { number = row.number; body = row.body; fate = fate } ∷ map (fated f) rows) (same row)
+    ap (λ (fate : Fate). record { number = row.number; body = row.body; users = row.users; fate = fate } ∷ map (fated f) rows) (same row)
     ∙ ap (λ (xs : List Row). fated g row ∷ xs) (fated_alike f g same rows)
 
 -- a unit was heard on link k, and link l is left

@@ -5,14 +5,14 @@
 -- order's target is up, so it isn't the link that the order is about. Case by case on the message's fate, no induction.
 -- Keeping.antt, Leaving.antt, Turning.antt, Passing.antt, Obeying.antt and Blind.antt make an `Acts` of each event's
 -- change, by link (`by_link`).
-use Rattle.std.proofs.Common.{refl, ◌≡◌, ◌≢◌, ◌∙◌, ap, sym, subst, ℕ, ◌==◌, ◌-◌, Bool, true, false, List, [], ◌∷◌, ◌++◌, drop, slice_get, slice_set, Option, Some, None, ◌⊎◌, inl, inr}
+use Rattle.std.proofs.Common.{not, refl, ◌≡◌, ◌≢◌, ◌∙◌, ap, sym, subst, ℕ, ◌==◌, ◌-◌, Bool, true, false, List, [], ◌∷◌, ◌++◌, drop, slice_get, slice_set, Option, Some, None, ◌⊎◌, inl, inr}
 use Rattle.std.proofs.lemmas.Bool.{eqb-true}
 use Rattle.std.proofs.lemmas.List.{append-nil}
 use Rattle.l3_orders.specs.declared.order.Order.{Order}
 use Rattle.l3_orders.specs.Grammar.{text, order_any, link_of}
 use Rattle.set_events.specs.declared.answer.Fate.{Fate}
 use Rattle.set_events.specs.declared.answer.Fate.TheVariants.{Waiting, Unacked, Acked, Held, Parked, Back, Discarded}
-use Rattle.set_model.specs.Rows.{Row, is_on, is_waiting, is_unacked, is_held, is_parked, held, parked, unack, appended, put_ahead}
+use Rattle.set_model.specs.Rows.{is_managements, Row, is_on, is_waiting, is_unacked, is_held, is_parked, held, parked, unack, appended, put_ahead}
 use Rattle.set_model.specs.Sound.{IsSound}
 use Rattle.set_model.specs.State.{is_open, link_is_open, given, LinkState, State, is_up, is_settled, link_is_up, link_is_settled, target}
 use Rattle.set_model.specs.Changeover.{fate_on, queued}
@@ -20,9 +20,9 @@ use Rattle.set_model.proofs.Ahead.{put_in, put_out}
 use Rattle.set_model.proofs.Events.{untouched}
 use Rattle.set_model.proofs.Lists.{found_up, get_set_same, get_set_other, within, target_open}
 use Rattle.set_model.proofs.Places.{false_true, itself}
-use Rattle.set_model.proofs.Rows.{new_row}
+use Rattle.set_model.proofs.Rows.{new_order}
 use Rattle.pair_model.specs.Run.{Message, messages}
-use Rattle.pair_changeover.proofs.Table.{joined, joins_at, new_message, queue_waits, queue_holds, queue_apart, queue_untouched, aside_joins, aside_apart}
+use Rattle.pair_changeover.proofs.Table.{joined, joins_at, new_message, new_order_message, queue_waits, queue_holds, queue_apart, queue_untouched, aside_joins, aside_apart}
 use Rattle.pair_changeover.proofs.Views.{view, pending, aside, queue, acked_on, accepted_of, accepted_on, last_of, last_on, Among, among_joined, among_front, among_behind, stands_on, stands_aside, IsNoOrder, NoneAbout, Tells, Orders, Came, plain, stayed, moved, CameAside, plain_aside, was_in, plain_not, Passes, carries, Queues, queued_in}
 
 -- the orders of both
@@ -166,7 +166,7 @@ module _ (number : ℕ) (rows : List Row) (body : List ℕ) where
 
   module _ (count link : ℕ) where
     places_waiting : (to : ℕ) (b : Bool) → (to == link) ≡ b
-        → Placed (new_message number body) b (queue count link rows) (queue count link (put (Some to)))
+        → Placed (new_order_message number body) b (queue count link rows) (queue count link (put (Some to)))
     places_waiting to false e =
         left_out refl (queue_untouched count link rows (put (Some to))
         (untouched link rows (put (Some to)) (put_out (λ (row : Row). is_on link row.fate) number rows body (Waiting to) e)))
@@ -180,21 +180,21 @@ module _ (number : ℕ) (rows : List Row) (body : List ℕ) where
           there.is,
           put_out (λ (row : Row). is_held link row.fate) number rows body (Waiting to) refl,
         )
-        (joins_at sent there.front (new_row number body (Waiting to) ∷ there.rest) (held link rows)))
+        (joins_at sent there.front (new_order number body (Waiting to) ∷ there.rest) (held link rows)))
 
     pub places : (to : Option ℕ)
-        → Placed (new_message number body) (is_on link (fate_on to)) (queue count link rows) (queue count link (put to))
+        → Placed (new_order_message number body) (is_on link (fate_on to)) (queue count link rows) (queue count link (put to))
     places None = left_out refl (queue_untouched count link rows (put None)
         (untouched link rows (put None) (put_out (λ (row : Row). is_on link row.fate) number rows body Parked refl)))
     places (Some to) = places_waiting to (to == link) refl
 
   pub places_aside : (to : Option ℕ)
-      → Placed (new_message number body) (is_parked (fate_on to)) (messages (parked rows)) (messages (parked (put to)))
+      → Placed (new_order_message number body) (is_parked (fate_on to)) (messages (parked rows)) (messages (parked (put to)))
   places_aside None =
       let there = put_in (λ (row : Row). is_parked row.fate) number rows body Parked refl in
       joined_in refl (messages there.front) (messages there.rest)
       (ap messages there.was ∙ joined there.front there.rest)
-      (ap messages there.is ∙ joined there.front (new_row number body Parked ∷ there.rest))
+      (ap messages there.is ∙ joined there.front (new_order number body Parked ∷ there.rest))
   places_aside (Some to) = left_out refl (ap messages (put_out (λ (row : Row). is_parked row.fate) number rows body (Waiting to) refl))
 
 -- a link that is up holds nothing
@@ -209,9 +209,9 @@ pub held_open : (s : State) (link : ℕ) → IsSound s → is_open link s ≡ tr
 held_open s link sound is = held_none s link sound (found_up (slice_get s.links link) is)
 
 -- A NEW MESSAGE that is no order of a changeover
-module _ (s f : State) (body : List ℕ) (t : State) (links : t.links ≡ s.links) (no_order : IsNoOrder body) where
+module _ (s f : State) (body : List ℕ) (users : Bool) (t : State) (links : t.links ≡ s.links) (no_order : IsNoOrder body) where
   abbrev fresh_one : Message
-  fresh_one = new_message (given s) body
+  fresh_one = record { number = given s; body = body; users = users }
 
   fresh_plain : (m : Message) → m ≡ fresh_one → IsNoOrder m.body
   fresh_plain m e order is over = no_order order (ap (λ (x : Message). order_any x.body) (sym e) ∙ is) over
@@ -265,7 +265,7 @@ module _ (s f : State) (body : List ℕ) (fate : Fate) (t : State) (rows : t.row
     offer_aside true e = grown refl (aside_joins 0 0 (given s) s.rows body fate e)
 
     pub offers_acts : Acts s t f
-    offers_acts = new_acts s f body t links no_order (λ link. is_on link fate) (is_parked fate) offer_on
+    offers_acts = new_acts s f body (not (is_managements body)) t links no_order (λ link. is_on link fate) (is_parked fate) offer_on
         (placed_last offer_z (is_parked fate) (aside s) (aside t)
         (subst (λ (q : List Message). Grows offer_z (is_parked fate) (aside s) q) (rw rows refl) (offer_aside (is_parked fate) refl)))
 
@@ -274,7 +274,7 @@ pub orders_acts : (s f : State) (order : Order)
     → IsNoOrder (text s.settings.profile order s.settings.sio s.settings.dpc s.settings.opc) → Acts s (queued order s) f
 orders_acts s f order no_order =
     let body = text s.settings.profile order s.settings.sio s.settings.dpc s.settings.opc in
-    new_acts s f body (queued order s) refl no_order (λ link. is_on link (fate_on (target s.links))) (is_parked (fate_on (target s.links)))
+    new_acts s f body false (queued order s) refl no_order (λ link. is_on link (fate_on (target s.links))) (is_parked (fate_on (target s.links)))
     (λ link. places (given s) s.rows body (accepted_on link f - acked_on link s) link (target s.links))
     (places_aside (given s) s.rows body (target s.links))
 
@@ -287,7 +287,7 @@ module _ {emergencies : Bool} (s f : State) (order : Order) (sound : IsSound s) 
   body = text s.settings.profile order s.settings.sio s.settings.dpc s.settings.opc
 
   abbrev z : Message
-  z = new_message (given s) body
+  z = new_order_message (given s) body
 
   up_at : (to : ℕ) → target s.links ≡ Some to → is_up to s ≡ true
   up_at to e = let to_is = target_open s.links to e in found_up (slice_get s.links to) (ap link_is_open to_is.1 ∙ to_is.2)

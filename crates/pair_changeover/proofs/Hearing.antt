@@ -4,7 +4,7 @@
 -- changeover that is heard was the only one about its link, and came by another; its end left that link, and tells what
 -- it counts, if anything. Case by case on the body and the order; Reaching.antt finds the row, Passing.antt tells the
 -- queues. Used by Ordered.antt, Arriving.antt, Counted.antt and Telling.antt, and by pair_streams's Hearing.antt.
-use Rattle.std.proofs.Common.{refl, arith, ◌≡◌, ◌≢◌, ◌∙◌, ap, sym, subst, ℕ, suc, ◌≤◌, ◌<◌, ◌==◌, ◌+◌, ◌-◌, Bool, true, false, List, [], ◌∷◌, ◌++◌, length, take, drop, slice_get, Option, Some, None, inl}
+use Rattle.std.proofs.Common.{not, refl, arith, ◌≡◌, ◌≢◌, ◌∙◌, ap, sym, subst, ℕ, suc, ◌≤◌, ◌<◌, ◌==◌, ◌+◌, ◌-◌, Bool, true, false, List, [], ◌∷◌, ◌++◌, length, take, drop, slice_get, Option, Some, None, inl}
 use Rattle.std.proofs.lemmas.Bool.{eqb-true}
 use Rattle.std.proofs.lemmas.Option.{same_Some}
 use Rattle.l2_units.specs.declared.unit.Unit.{Unit as SignalUnit}
@@ -24,7 +24,7 @@ use Rattle.set_route.specs.declared.place.Code.{Code}
 use Rattle.set_route.specs.declared.place.Code.TheVariants.{Free, Asked, Spent}
 use Rattle.set_route.specs.Routing.{code_of}
 use Rattle.set_model.specs.Changeover.{Obeyed, order_obeyed, at_link, changed_over, answered, acknowledged_back, obeyed}
-use Rattle.set_model.specs.Rows.{unack, parked, service_indicator, IsNumbered}
+use Rattle.set_model.specs.Rows.{unack, parked, is_managements, is_unacked, service_indicator, IsNumbered}
 use Rattle.set_model.specs.Sound.{IsSound}
 use Rattle.set_model.specs.State.{given, LinkState, State, is_up, is_settled, link_is_up, link_is_settled, has_phase_up, has_phase_settled, window_of}
 use Rattle.set_model.specs.Step.{brought, takes, one_if}
@@ -42,7 +42,7 @@ use Rattle.pair_model.proofs.Tied.{Side, Tied, turned}
 use Rattle.pair_changeover.proofs.Changes.{Both, Acts, acts, by_link, other_then}
 use Rattle.pair_changeover.proofs.Obeying.{Told, Heard, TellsNoBack, TellsOver, Obeys, keeps, settles, answers, settles_blind, answers_blind, acknowledges, releases}
 use Rattle.pair_changeover.proofs.Passing.{passing, far_stays, far_loses, was_first}
-use Rattle.pair_changeover.proofs.Reaching.{Reaches, reaches, Due, due, due_message, not_queued, not_aside}
+use Rattle.pair_changeover.proofs.Reaching.{marked_at, Reaches, reaches, Due, due, due_message, not_queued, not_aside}
 use Rattle.pair_changeover.proofs.Table.{queue_acked, queue_untouched}
 use Rattle.pair_changeover.proofs.Texts.{plain_in}
 use Rattle.pair_changeover.proofs.Views.{view, pending, queue, acked_of, acked_on, accepted_of, accepted_on, last_of, last_on, Among, In, stands_on, stands_aside, About, IsChangeover, Tells}
@@ -199,7 +199,11 @@ module _ {emergencies : Bool} (mx my : Method) (one : IsOneMethod mx my) (p : Tw
           ap acked_of far_at.1 in omega (arith, d, c, a)
 
       abbrev pub first : Message
-      first = record { number = next_due.row.number; body = next_due.row.body }
+      first = record { number = next_due.row.number; body = next_due.row.body; users = next_due.row.users }
+
+      -- its octets tell whose it is
+      pub first_marked : first.users ≡ not (is_managements first.body)
+      first_marked = marked_at (λ row. is_unacked k row.fate) p.far.rows (link.accepted - acked_on k p.far) next_due.row h.far_sound.marked next_due.there
 
       -- the message at its place among those that were sent
       pub first_sent : slice_get y.sent (length x.taken) ≡ Some first

@@ -90,7 +90,7 @@ module _ (blind : Bool) (k : ℕ) (link : LinkState) (s f : State) (sound : IsSo
   leaves_aside = turned_aside (is_back_to k) goes_to s left f (home_back k) unsent refl acked either
 
   pub leaves_acts : Acts s left f
-  leaves_acts = turned_acts (is_back_to k) goes_to s left f (home_back k) unsent refl acked either sound.backs up_less
+  leaves_acts = turned_acts (is_back_to k) goes_to s left f (home_back k) unsent refl acked either sound.marked sound.backs up_less
       (all (λ n old new. link_is_settled new ≡ true → link_is_settled old ≡ true) (λ e. absurd cc) (λ n old d e. e))
       (all (λ n old new. accepted_of new ≡ accepted_of old) refl (λ n old d. refl))
       (all (λ n old new. last_of new ≡ last_of old) refl (λ n old d. refl))
@@ -134,7 +134,7 @@ module _ (code : ℕ) (s f : State) (sound : IsSound s) where
     where
       go : (b : Bool) → is_open home s ≡ b → Acts s gone f
       go true o = turned_acts (is_back code) (all_with (Waiting home)) s gone f (code_back code) unsent_home refl
-          (λ l. refl) (either_home o) sound.backs (λ l e. e) (λ l e. e) (λ l. refl) (λ l. refl)
+          (λ l. refl) (either_home o) sound.marked sound.backs (λ l e. e) (λ l e. e) (λ l. refl) (λ l. refl)
       go false shut = stands_still s gone f (none_back code s sound shut) refl
 
   pub releases_discards : standing was_discarded gone.rows ≡ standing was_discarded s.rows

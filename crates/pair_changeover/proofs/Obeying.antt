@@ -40,7 +40,7 @@ use Rattle.pair_changeover.proofs.Changes.{Both, Acts, acts, stands_still, acts_
 use Rattle.pair_changeover.proofs.Leaving.{goes_to, leaves_acts, leaves_discards, releases_acts, releases_discards}
 use Rattle.pair_changeover.proofs.Passing.{IsReached, settles_acts, links_then, rows_then, link_then}
 use Rattle.pair_changeover.proofs.Texts.{AreCodes, coa_read, cba_plain}
-use Rattle.pair_changeover.proofs.Table.{new_message, ahead_none, ahead_there, aside_settled, wait_settled, queue_untouched}
+use Rattle.pair_changeover.proofs.Table.{new_order_message, ahead_none, ahead_there, aside_settled, wait_settled, queue_untouched}
 use Rattle.pair_changeover.proofs.Turning.{unack_same}
 use Rattle.pair_changeover.proofs.Views.{view, queue, pending, acked_of, acked_on, accepted_of, accepted_on, last_of, IsChangeover, NoneAbout}
 
@@ -279,7 +279,7 @@ module _ (l : ℕ) (link : LinkState) (s f : State) (sound : IsSound s) (codes :
   told_accepted = by_link l link (left_link false (given s) link) s left at.there refl (λ m old new. accepted_of new ≡ accepted_of old) refl (λ m old d. refl)
 
   answer_is : (q : List Message)
-      → ahead_of_users (new_message (given left) answer_text ∷ []) q ≡ ahead_of_users (answer_on l (Some link) s) q
+      → ahead_of_users (new_order_message (given left) answer_text ∷ []) q ≡ ahead_of_users (answer_on l (Some link) s) q
   answer_is q = rw (at.phase_is, same_number) refl
 
   told_target : (to : Option ℕ) → target left.links ≡ to

@@ -23,7 +23,7 @@ use Rattle.pair_changeover.proofs.Views.{pending, queue, Among, among_front, amo
 
 -- what waits is pending
 abbrev message_of : Row → Message
-message_of row = record { number = row.number; body = row.body }
+message_of row = record { number = row.number; body = row.body; users = row.users }
 
 first_pending : (count k : ℕ) (rows rest : List Row) (row : Row) → wait k rows ≡ row ∷ rest → Among (message_of row) (queue count k rows)
 first_pending count k rows rest row e =

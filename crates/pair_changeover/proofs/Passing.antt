@@ -67,7 +67,7 @@ module _ (k : ℕ) (link link' : LinkState) (s t f : State) (there : slice_get s
   module _ (one : link'.accepted ≡ suc link.accepted) (row : Row) (due : acked_on k f ≤ link.accepted)
       (head : slice_get (unack k f.rows) (link.accepted - acked_on k f) ≡ Some row) where
     abbrev pub first : Message
-    first = record { number = row.number; body = row.body }
+    first = record { number = row.number; body = row.body; users = row.users }
 
     pub was_first : pending k f s ≡ first ∷ pending k f t
     was_first =

@@ -4,12 +4,13 @@
 -- as was accepted beyond what is acknowledged. `not_queued` and `not_aside` say that no other pending or parked message
 -- has its number, as two rows would (`two_there`, `at_most_one`). The inductions are on lists of rows. Used by
 -- Hearing.antt, Ordered.antt, Counted.antt, Whole.antt and Arriving.antt.
-use Rattle.std.proofs.Common.{refl, arith, ◌≡◌, ◌≢◌, ◌∙◌, ap, sym, subst, ℕ, zero, suc, ◌≤◌, ◌<◌, ◌==◌, ◌+◌, ◌-◌, Bool, true, false, List, [], ◌∷◌, ◌++◌, length, filter, take, drop, slice_get, Option, Some, None, ◌⊎◌, inl, inr}
+use Rattle.std.proofs.Common.{cond, not, refl, arith, ◌≡◌, ◌≢◌, ◌∙◌, ap, sym, subst, ℕ, zero, suc, ◌≤◌, ◌<◌, ◌==◌, ◌+◌, ◌-◌, Bool, true, false, List, [], ◌∷◌, ◌++◌, length, filter, take, drop, slice_get, Option, Some, None, ◌⊎◌, inl, inr}
 use Rattle.std.proofs.lemmas.Bool.{eq-eqb, eqb-true}
 use Rattle.std.proofs.lemmas.List.{length-map}
+use Rattle.std.proofs.lemmas.Option.{same_Some}
 use Rattle.set_events.specs.declared.answer.Fate.{Fate}
 use Rattle.set_events.specs.declared.answer.Fate.TheVariants.{Waiting, Unacked, Acked, Held, Parked, Back, Discarded}
-use Rattle.set_model.specs.Rows.{Row, is_unacked, is_waiting, is_held, is_parked, standing, unack, wait, held, parked, row_of, IsNumbered}
+use Rattle.set_model.specs.Rows.{Row, AreMarked, is_users, is_managements, is_unacked, is_waiting, is_held, is_parked, standing, unack, wait, held, parked, row_of, IsNumbered}
 use Rattle.set_model.specs.State.{LinkState, State, has_phase_settled}
 use Rattle.set_model.proofs.Rows.{with_number, at_most_one, row_in_filter}
 use Rattle.set_model.proofs.Lists.{at_map, map_at}
@@ -44,7 +45,7 @@ reaches l near far s f k link there unsettled other far_there =
     let as_many = length-map (near.sent l) (λ (m : Message). m.body) in
     let more = dropped link.acked (near.sent l) in
     let left : length (drop link.acked (near.sent l)) ≡ length (unack l s.rows) = ap length (sym g.unacked)
-    ∙ length-map (unack l s.rows) (λ (row : Row). record { number = row.number; body = row.body }) in
+    ∙ length-map (unack l s.rows) (λ (row : Row). record { number = row.number; body = row.body; users = row.users }) in
     record {
       due = omega (arith, counted, g.acked);
       within = omega (arith, counted, few, as_many, more, left);
@@ -72,6 +73,23 @@ get_drop (suc a) (suc n) (x ∷ xs) few = let same : suc n - suc a ≡ n - a =
     omega (arith, few) in ap (slice_get (drop a xs)) same ∙ get_drop a n xs (omega (arith, few))
 
 -- the row of the message that is accepted
+-- a row of a filter has its mark
+pub marked_at : (p : Row → Bool) (rows : List Row) (i : ℕ) (row : Row) → AreMarked rows → slice_get (filter p rows) i ≡ Some row
+    → is_users row ≡ not (is_managements row.body)
+marked_at p [] i row marked there = absurd cc
+marked_at p (x ∷ rows) i row marked there = go (p x) there (λ n e. marked_at p rows n row marked.1 e)
+  where
+    Later : Type 0
+    Later = (n : ℕ) → slice_get (filter p rows) n ≡ Some row → is_users row ≡ not (is_managements row.body)
+
+    front : (n : ℕ) → slice_get (x ∷ filter p rows) n ≡ Some row → Later → is_users row ≡ not (is_managements row.body)
+    front zero e later = subst (λ (r : Row). is_users r ≡ not (is_managements r.body)) (same_Some x row e) marked.0
+    front (suc n) e later = later n e
+
+    go : (b : Bool) → slice_get (cond b (x ∷ filter p rows) (filter p rows)) i ≡ Some row → Later → is_users row ≡ not (is_managements row.body)
+    go true found later = front i found later
+    go false found later = later i found
+
 pub record Due (l count : ℕ) (body : List ℕ) (rows : List Row) : Type 0 where
   pub row : Row
   pub there : slice_get (unack l rows) count ≡ Some row
@@ -79,10 +97,10 @@ pub record Due (l count : ℕ) (body : List ℕ) (rows : List Row) : Type 0 wher
 
 pub due_message : (l acked : ℕ) (rows : List Row) (sent : List Message) (count : ℕ) (row : Row)
     → messages (unack l rows) ≡ drop acked sent → acked ≤ count → slice_get (unack l rows) (count - acked) ≡ Some row
-    → slice_get sent count ≡ Some (record { number = row.number; body = row.body })
+    → slice_get sent count ≡ Some (record { number = row.number; body = row.body; users = row.users })
 due_message l acked rows sent count row unacked few there =
     sym (get_drop acked count sent few) ∙ ap (λ (ms : List Message). slice_get ms (count - acked)) (sym unacked)
-    ∙ map_at (λ (r : Row). record { number = r.number; body = r.body }) (unack l rows) (count - acked) row there
+    ∙ map_at (λ (r : Row). record { number = r.number; body = r.body; users = r.users }) (unack l rows) (count - acked) row there
 
 pub due : (l acked : ℕ) (rows : List Row) (sent : List Message) (taken : List (List ℕ)) (body : List ℕ)
     → messages (unack l rows) ≡ drop acked sent → acked ≤ length taken
@@ -91,7 +109,7 @@ due l acked rows sent taken body unacked few prefix =
     let message = at_map (λ (m : Message). m.body) sent (length taken) body (prefix_next taken (bodies sent) body prefix) in
     let there : slice_get (messages (unack l rows)) (length taken - acked) ≡ Some message.0 =
     ap (λ (ms : List Message). slice_get ms (length taken - acked)) unacked ∙ get_drop acked (length taken) sent few ∙ message.1 in
-    let row = at_map (λ (r : Row). record { number = r.number; body = r.body }) (unack l rows) (length taken - acked) message.0 there in
+    let row = at_map (λ (r : Row). record { number = r.number; body = r.body; users = r.users }) (unack l rows) (length taken - acked) message.0 there in
     record { row = row.0; there = row.1; body_is = ap (λ (m : Message). m.body) row.2 ∙ message.2 }
 
 -- IT STANDS NOWHERE ELSE

@@ -4,23 +4,23 @@
 -- what it accepts leaves first (`queue_accepted`); a link that settles leaves its queue behind the target's or aside
 -- (`queue_settled`, `aside_settled`). Equations on lists, from set_model's Events.antt; only `drop_twice` and its like
 -- are inductions. Used by Changes.antt, Turning.antt, Passing.antt, Obeying.antt, Hearing.antt and Keeping.antt.
-use Rattle.std.proofs.Common.{refl, arith, ◌≡◌, ◌∙◌, ap, sym, ℕ, zero, suc, ◌≤◌, ◌==◌, ◌+◌, ◌-◌, Bool, true, false, List, [], ◌∷◌, ◌++◌, length, map, take, drop, slice_get, Some, append_assoc}
+use Rattle.std.proofs.Common.{cond, refl, arith, ◌≡◌, ◌∙◌, ap, sym, ℕ, zero, suc, ◌≤◌, ◌==◌, ◌+◌, ◌-◌, Bool, true, false, List, [], ◌∷◌, ◌++◌, length, map, take, drop, slice_get, Some, append_assoc}
 use Rattle.std.proofs.lemmas.List.{append-nil, map-append, drop-append-le, take-append-drop}
 use Rattle.set_events.specs.declared.answer.Fate.{Fate}
 use Rattle.set_events.specs.declared.answer.Fate.TheVariants.{Waiting, Unacked, Acked, Parked}
 use Rattle.set_model.specs.Rows.{Row, is_on, is_waiting, is_unacked, is_held, is_parked, all_with, unack, wait, held, parked, with_fate, turned, moved, appended, put_ahead, is_users, same_fate, standing, IsInOrder, IsHeldLast}
 use Rattle.set_model.proofs.Events.{Untouched, acknowledged, sent, moved_to, moved_aside, unparked, appended_in, appended_out, untouched}
 use Rattle.set_model.proofs.Rows.{new_row}
-use Rattle.pair_model.specs.Run.{Message, messages}
-use Rattle.pair_changeover.specs.Diverted.{is_from_users, ahead_of_users}
+use Rattle.pair_model.specs.Run.{message_by, Message, messages}
+use Rattle.pair_changeover.specs.Diverted.{ahead_of_users}
 use Rattle.pair_changeover.proofs.Views.{queue}
 
 pub joined : (xs ys : List Row) → messages (xs ++ ys) ≡ messages xs ++ messages ys
-joined xs ys = map-append (λ (row : Row). record { number = row.number; body = row.body }) xs ys
+joined xs ys = map-append (λ (row : Row). record { number = row.number; body = row.body; users = row.users }) xs ys
 
 pub same_messages : (fate : Fate) (rows : List Row) → messages (map (with_fate fate) rows) ≡ messages rows
 same_messages fate [] = refl
-same_messages fate (row ∷ rows) = ap (λ (ms : List Message). record { number = row.number; body = row.body } ∷ ms) (same_messages fate rows)
+same_messages fate (row ∷ rows) = ap (λ (ms : List Message). record { number = row.number; body = row.body; users = row.users } ∷ ms) (same_messages fate rows)
 
 pub drop_none : {X : Type 0} (n : ℕ) → ◌≡◌ {A = List X} (drop n []) []
 drop_none zero = refl
@@ -51,7 +51,11 @@ pub joins_held : (sent waiting kept more : List Row) → messages (sent ++ waiti
 joins_held sent waiting kept more = ap messages (sym (append_assoc (sent ++ waiting) kept more)) ∙ joined (sent ++ waiting ++ kept) more
 
 abbrev pub new_message : ℕ → List ℕ → Message
-new_message number body = record { number = number; body = body }
+new_message number body = message_by number body
+
+-- and one of the management
+abbrev pub new_order_message : ℕ → List ℕ → Message
+new_order_message number body = record { number = number; body = body; users = false }
 
 module _ (count link number : ℕ) (rows : List Row) (body : List ℕ) (fate : Fate) where
   pub queue_waits : is_waiting link fate ≡ true → is_unacked link fate ≡ false → is_held link fate ≡ false
@@ -95,25 +99,25 @@ joins_at sent front rest kept =
 -- with no order nothing is ahead
 pub ahead_none : (ms : List Message) → ahead_of_users [] ms ≡ ms
 ahead_none [] = refl
-ahead_none (m ∷ ms) = go (is_from_users m) refl (ahead_none ms)
+ahead_none (m ∷ ms) = go m.users (ahead_none ms)
   where
-    go : (b : Bool) → is_from_users m ≡ b → ahead_of_users [] ms ≡ ms → ahead_of_users [] (m ∷ ms) ≡ m ∷ ms
-    go true e later = rw e refl
-    go false e later = rw e (ap (λ (xs : List Message). m ∷ xs) later)
+    go : (b : Bool) → ahead_of_users [] ms ≡ ms → cond b (m ∷ ms) (m ∷ ahead_of_users [] ms) ≡ m ∷ ms
+    go true later = refl
+    go false later = ap (λ (xs : List Message). m ∷ xs) later
 
 module _ (number : ℕ) (body : List ℕ) (fate : Fate) (own : same_fate fate fate ≡ true) where
   abbrev there : List Row → List Message
   there rows = messages (standing (λ f. same_fate f fate) rows)
 
-  pub ahead_there : (rows : List Row) → there (put_ahead number rows body fate) ≡ ahead_of_users (new_message number body ∷ []) (there rows)
+  pub ahead_there : (rows : List Row) → there (put_ahead number rows body fate) ≡ ahead_of_users (new_order_message number body ∷ []) (there rows)
   ahead_there [] = rw own refl
   ahead_there (x ∷ rows) = go (same_fate x.fate fate) refl (is_users x) refl (ahead_there rows)
     where
       go : (b : Bool) → same_fate x.fate fate ≡ b → (u : Bool) → is_users x ≡ u
-          → there (put_ahead number rows body fate) ≡ ahead_of_users (new_message number body ∷ []) (there rows)
-          → there (put_ahead number (x ∷ rows) body fate) ≡ ahead_of_users (new_message number body ∷ []) (there (x ∷ rows))
-      go true e true u later = rw (u, e, own, e, u) refl
-      go true e false u later = rw (u, e, u) (ap (λ (xs : List Message). new_message x.number x.body ∷ xs) later)
+          → there (put_ahead number rows body fate) ≡ ahead_of_users (new_order_message number body ∷ []) (there rows)
+          → there (put_ahead number (x ∷ rows) body fate) ≡ ahead_of_users (new_order_message number body ∷ []) (there (x ∷ rows))
+      go true e true u later = rw (u, e, own, e) refl
+      go true e false u later = rw (u, e) (ap (λ (xs : List Message). record { number = x.number; body = x.body; users = false } ∷ xs) later)
       go false e true u later = rw (u, e, e) later
       go false e false u later = rw (u, e) later
 
@@ -152,7 +156,7 @@ queue_acked accepted acked count link rows few =
 
 -- ACCEPTED by the far end: the first leaves
 pub queue_accepted : (count link : ℕ) (rows : List Row) (row : Row) → slice_get (unack link rows) count ≡ Some row
-    → queue count link rows ≡ record { number = row.number; body = row.body } ∷ queue (suc count) link rows
+    → queue count link rows ≡ record { number = row.number; body = row.body; users = row.users } ∷ queue (suc count) link rows
 queue_accepted count link rows row there = rw (drop_at count (unack link rows) row there) refl
 
 -- A LINK SETTLES: its queue stands behind the target's, or aside

@@ -4,13 +4,13 @@
 -- (`turned_users`, by induction on the rows). And they stand at the end because a link either holds nothing, or nothing
 -- comes to wait for it (`IsEither`): else the new ones would stand before what is held. Leaving.antt uses it for a link
 -- that is left and for a code that is released, and so do pair_streams's Turned.antt and Returned.antt.
-use Rattle.std.proofs.Common.{Some, None, refl, ◌≡◌, ◌∙◌, ap, sym, subst, ℕ, ◌==◌, Bool, true, false, not, ◌-◌, List, [], ◌∷◌, ◌++◌, map, drop, ◌⊎◌, inl, inr, cond}
+use Rattle.std.proofs.Common.{Some, None, refl, ◌≡◌, ◌∙◌, ap, sym, subst, ℕ, Bool, true, false, not, ◌-◌, List, [], ◌∷◌, ◌++◌, map, drop, ◌⊎◌, inl, inr, cond}
 use Rattle.std.proofs.lemmas.List.{append-nil}
 use Rattle.l3_orders.specs.Grammar.{order_any}
 use Rattle.set_events.specs.declared.answer.Fate.{Fate}
 use Rattle.set_events.specs.declared.answer.Fate.TheVariants.{Waiting, Unacked, Acked, Held, Parked, Back, Discarded}
 use Rattle.set_route.specs.Routing.{Routing}
-use Rattle.set_model.specs.Rows.{Row, standing, stands_back, is_unacked, is_waiting, is_held, is_parked, service_indicator, unack, wait, held, parked, moved, fated}
+use Rattle.set_model.specs.Rows.{Row, AreMarked, is_users, is_managements, standing, stands_back, is_unacked, is_waiting, is_held, is_parked, unack, wait, held, parked, moved, fated}
 use Rattle.set_model.specs.Sound.{IsBackOf, AreBack}
 use Rattle.set_model.specs.State.{State, is_up, is_settled}
 use Rattle.set_model.proofs.Rows.{fated_none, moved_same, moved_more}
@@ -27,25 +27,25 @@ not_false false e = refl
 
 module _ (test : Fate → Bool) (fate : Row → Fate) (back : (f : Fate) → test f ≡ true → stands_back f ≡ true) where
   -- they are messages of the users
-  plain_row : (routing : Routing) (row : Row) (f : Fate) → test f ≡ true → IsBackOf routing row f → order_any row.body ≡ None
-  plain_row routing row (Back code) e b = plain_body row.body (not_false (service_indicator row.body == 0) b.0)
-  plain_row routing row (Waiting l) e b = absurd (let no : false ≡ true = back (Waiting l) e in cc)
-  plain_row routing row (Unacked l) e b = absurd (let no : false ≡ true = back (Unacked l) e in cc)
-  plain_row routing row (Acked l) e b = absurd (let no : false ≡ true = back (Acked l) e in cc)
-  plain_row routing row (Held l) e b = absurd (let no : false ≡ true = back (Held l) e in cc)
-  plain_row routing row Parked e b = absurd (let no : false ≡ true = back Parked e in cc)
-  plain_row routing row (Discarded cause) e b = absurd (let no : false ≡ true = back (Discarded cause) e in cc)
+  plain_row : (routing : Routing) (row : Row) (f : Fate) → is_users row ≡ not (is_managements row.body) → test f ≡ true → IsBackOf routing row f → order_any row.body ≡ None
+  plain_row routing row (Back code) own e b = plain_body row.body (not_false (is_managements row.body) (sym own ∙ b.0))
+  plain_row routing row (Waiting l) own e b = absurd (let no : false ≡ true = back (Waiting l) e in cc)
+  plain_row routing row (Unacked l) own e b = absurd (let no : false ≡ true = back (Unacked l) e in cc)
+  plain_row routing row (Acked l) own e b = absurd (let no : false ≡ true = back (Acked l) e in cc)
+  plain_row routing row (Held l) own e b = absurd (let no : false ≡ true = back (Held l) e in cc)
+  plain_row routing row Parked own e b = absurd (let no : false ≡ true = back Parked e in cc)
+  plain_row routing row (Discarded cause) own e b = absurd (let no : false ≡ true = back (Discarded cause) e in cc)
 
-  pub turned_users : (routing : Routing) (other : Fate → Bool) (rows : List Row) → AreBack routing rows → (m : Message)
+  pub turned_users : (routing : Routing) (other : Fate → Bool) (rows : List Row) → AreMarked rows → AreBack routing rows → (m : Message)
       → Among m (messages (standing other (map (fated fate) (standing test rows)))) → order_any m.body ≡ None
-  turned_users routing other [] b m among = absurd among
-  turned_users routing other (row ∷ rows) b m among = go (λ a. turned_users routing other rows b.1 m a) (test row.fate) refl among
+  turned_users routing other [] own b m among = absurd among
+  turned_users routing other (row ∷ rows) own b m among = go (λ a. turned_users routing other rows own.1 b.1 m a) (test row.fate) refl among
     where
       kept : (Among m (messages (standing other (map (fated fate) (standing test rows)))) → order_any m.body ≡ None)
           → test row.fate ≡ true → (c : Bool)
           → Among m (messages (cond c (fated fate row ∷ standing other (map (fated fate) (standing test rows)))
           (standing other (map (fated fate) (standing test rows))))) → order_any m.body ≡ None
-      kept rest e true (inl same) = ap (λ (x : Message). order_any x.body) same ∙ plain_row routing row row.fate e b.0
+      kept rest e true (inl same) = ap (λ (x : Message). order_any x.body) same ∙ plain_row routing row row.fate own.0 e b.0
       kept rest e true (inr a) = rest a
       kept rest e false a = rest a
 
@@ -90,14 +90,14 @@ module _ (test : Fate → Bool) (fate : Row → Fate) (back : (f : Fate) → tes
     pub turned_parked : parked (moved test fate rows) ≡ parked rows ++ parked turned_rows
     turned_parked = moved_more test is_parked fate rows (λ f e. back_not_parked f (back f e))
 
-    pub gained_users : (routing : Routing) → AreBack routing rows → (l : ℕ) (m : Message) → Among m (gained l) → order_any m.body ≡ None
-    gained_users routing b l m among =
+    pub gained_users : (routing : Routing) → AreMarked rows → AreBack routing rows → (l : ℕ) (m : Message) → Among m (gained l) → order_any m.body ≡ None
+    gained_users routing own b l m among =
         go (among_joined m (messages (wait l turned_rows)) (messages (held l turned_rows))
         (subst (Among m) (joined (wait l turned_rows) (held l turned_rows)) among))
       where
         go : Among m (messages (wait l turned_rows)) ⊎ Among m (messages (held l turned_rows)) → order_any m.body ≡ None
-        go (inl a) = turned_users routing (is_waiting l) rows b m a
-        go (inr a) = turned_users routing (is_held l) rows b m a
+        go (inl a) = turned_users routing (is_waiting l) rows own b m a
+        go (inr a) = turned_users routing (is_held l) rows own b m a
 
 no_plain : (m : Message) → order_any m.body ≡ None → IsPlain m
 no_plain m none order is over = let no : None ≡ Some order = sym none ∙ is in absurd cc
@@ -119,10 +119,10 @@ module _ (test : Fate → Bool) (fate : Row → Fate) (s t f : State)
       ∙ joined (parked s.rows) (parked (turned_rows test fate back s.rows unsent))
 
   -- in which no order is made
-  pub turned_acts : AreBack s.routing s.rows → ((l : ℕ) → is_up l t ≡ true → is_up l s ≡ true)
+  pub turned_acts : AreMarked s.rows → AreBack s.routing s.rows → ((l : ℕ) → is_up l t ≡ true → is_up l s ≡ true)
       → ((l : ℕ) → is_settled l t ≡ true → is_settled l s ≡ true) → ((l : ℕ) → accepted_on l t ≡ accepted_on l s)
       → ((l : ℕ) → last_on l t ≡ last_on l s) → Acts s t f
-  turned_acts b up settled accepted last = record {
+  turned_acts own b up settled accepted last = record {
     came = λ l m among. came_case l m (among_joined m (pending l s f) (gained test fate back s.rows unsent l) (subst (Among m) (turned_pending l) among));
     came_aside = λ m among. aside_case m
         (among_joined m (aside s) (messages (parked (turned_rows test fate back s.rows unsent)))
@@ -135,8 +135,8 @@ module _ (test : Fate → Bool) (fate : Row → Fate) (s t f : State)
     where
       came_case : (l : ℕ) (m : Message) → Among m (pending l s f) ⊎ Among m (gained test fate back s.rows unsent l) → Came (view s f) l m
       came_case l m (inl a) = stayed a
-      came_case l m (inr a) = plain (no_plain m (gained_users test fate back s.rows unsent s.routing b l m a))
+      came_case l m (inr a) = plain (no_plain m (gained_users test fate back s.rows unsent s.routing own b l m a))
 
       aside_case : (m : Message) → Among m (aside s) ⊎ Among m (messages (parked (turned_rows test fate back s.rows unsent))) → CameAside (view s f) m
       aside_case m (inl a) = was_in (stands_aside a)
-      aside_case m (inr a) = plain_aside (no_plain m (turned_users test fate back s.routing is_parked s.rows b m a))
+      aside_case m (inr a) = plain_aside (no_plain m (turned_users test fate back s.routing is_parked s.rows own b m a))

@@ -1,7 +1,7 @@
 -- WHAT A CHANGEOVER DIVERTS between two ends, in every sound run (Q.704 5). Here n of a link is how many bodies the far
 -- end accepted on it in its present life, or its last one.
 use Rattle.l2_window.specs.Window.{fsn_count, fsn_before_first}
-use Rattle.std.specs.Prelude.{◌≡◌, ◌≤◌, ℕ, ◌==◌, Bool, true, false, not, ◌+◌, ◌%◌, List, [], ◌∷◌, ◌++◌, All, length, take, drop, slice_get, Option, Some, None, if◌then◌else◌}
+use Rattle.std.specs.Prelude.{◌≡◌, ◌≤◌, ℕ, true, false, not, ◌+◌, ◌%◌, List, [], ◌∷◌, ◌++◌, All, length, take, drop, slice_get, Option, Some, None, if◌then◌else◌}
 use Rattle.l2_units.specs.declared.unit.Unit.{Unit as SignalUnit}
 use Rattle.l3_orders.specs.declared.order.Order.{Order}
 use Rattle.l3_orders.specs.declared.order.Order.TheVariants.{Coo, Coa}
@@ -11,7 +11,7 @@ use Rattle.set_events.specs.declared.answer.Fate.TheVariants.{Acked}
 use Rattle.set_events.specs.declared.answer.Took.{Took}
 use Rattle.set_events.specs.declared.answer.Took.TheVariants.{Order as TookOrder}
 use Rattle.set_events.specs.declared.config.SetConfig.{SetConfig}
-use Rattle.set_model.specs.Rows.{Row, service_indicator, wait, held, parked, place, standing, was_discarded}
+use Rattle.set_model.specs.Rows.{Row, wait, held, parked, place, standing, was_discarded}
 use Rattle.set_model.specs.State.{given, LinkState, State, has_phase_up, has_phase_settled, is_settled, last_accepted, target}
 use Rattle.set_model.specs.Changeover.{is_reasonable, left_by}
 use Rattle.pair_steps.specs.declared.step.End.{End}
@@ -79,17 +79,15 @@ answer_on link (Some state) s =
     then record {
       number = given s;
       body = text s.settings.profile (Coa link (last_accepted state)) s.settings.sio s.settings.dpc s.settings.opc;
+      users = false;
     } ∷ []
     else []
 
 -- which stands before the first users' message of those that wait, or behind them if there is none
-abbrev pub is_from_users : Message → Bool
-is_from_users message = not (service_indicator message.body == 0)
-
 abbrev pub ahead_of_users : List Message → List Message → List Message
 ahead_of_users orders [] = orders
 ahead_of_users orders (message ∷ others) =
-    if is_from_users message then orders ++ message ∷ others else message ∷ ahead_of_users orders others
+    if message.users then orders ++ message ∷ others else message ∷ ahead_of_users orders others
 
 -- the first n of the messages that were sent on the link in that life are acknowledged; and exactly the others of them,
 -- then those that wait for the link, then those that are held for it as it's left, stand in this order behind what waited

@@ -14,7 +14,7 @@ use Rattle.pair_steps.specs.declared.step.Step.{Step}
 use Rattle.pair_steps.specs.declared.step.Step.TheVariants.{Act, Emit, Arrive, Lose, Together}
 use Rattle.pair_steps.specs.declared.step.Shown.{Shown}
 use Rattle.pair_model.specs.World.{World, Outcome, shows, impossible, exhausted, carried_out}
-use Rattle.pair_model.specs.Run.{Stage, begun, passed, Message}
+use Rattle.pair_model.specs.Run.{Stage, begun, passed, Message, message_by}
 
 -- an end with so many links
 end_with : (links : ℕ) → 1 ≤ links → links ≤ 16 → SetConfig
@@ -58,7 +58,7 @@ second : List ℕ
 second = 133 ∷ 1 ∷ 128 ∷ 0 ∷ 49 ∷ []
 
 message : ℕ → List ℕ → Message
-message number body = record { number = number; body = body }
+message number body = message_by number body
 
 -- A MESSAGE ARRIVES.
 arrives : List Step

@@ -27,7 +27,7 @@ use Rattle.set_model.specs.declared.phase.Phase.{Phase}
 use Rattle.set_model.specs.declared.phase.Phase.TheVariants.{Up, Down, Settled}
 use Rattle.set_model.specs.declared.reached.Reached.{Reached}
 use Rattle.set_model.specs.declared.reached.Reached.TheVariants.{Upto, Unknown, Unanswered, Unasked}
-use Rattle.set_model.specs.Rows.{Fate, Waiting, Unacked, Acked, Held, Back, Parked, Discarded, place, waits, is_parked, Row, is_unacked, is_back, is_back_to, stands_back, unack, all_with, appended, moved, service_indicator, stream_of}
+use Rattle.set_model.specs.Rows.{Fate, Waiting, Unacked, Acked, Held, Back, Parked, Discarded, place, waits, is_parked, Row, is_unacked, is_back, is_back_to, stands_back, unack, all_with, appended, moved, is_managements, stream_of}
 use Rattle.set_model.specs.State.{given, LinkState, State, link_count, link_is_open, open_link, opens_in, has_phase_up, has_phase_settled, is_open, fate_at, target, window_of, with_link}
 use Rattle.set_model.specs.Control.{part_of}
 use Rattle.set_model.specs.Changeover.{Obeyed, fate_on, answered_link, left_link, acknowledged as acknowledged_link, settled_link, moved_over, queued, out_of_service, left_by, leaving_order, declared, some_declare, acknowledged_code, redeclared_from, redeclared_on, some_overdue, released, released_from, some_in_use, acknowledged_back, is_reasonable, judged, settled, taken_back, changed_over, answered, at_link, order_obeyed, obeyed, reply_of}
@@ -305,9 +305,9 @@ obeyed_follows l (Some order) s = order_follows l order s
 -- what becomes of an accepted body
 pub takes_follows : (l : ℕ) (body : Option (List ℕ)) (s : State) → Follows l s (takes body s).state
 takes_follows l None s = follows_same l s
-takes_follows l (Some body) s = go (service_indicator body == 0) refl
+takes_follows l (Some body) s = go (is_managements body) refl
   where
-    go : (b : Bool) → (service_indicator body == 0) ≡ b → Follows l s (takes (Some body) s).state
+    go : (b : Bool) → is_managements body ≡ b → Follows l s (takes (Some body) s).state
     go true e = rw e (obeyed_follows l (order_of s.settings.profile body) s)
     go false e = rw e (follows_untouched l s _ refl (untouched l s.rows s.rows refl))
 

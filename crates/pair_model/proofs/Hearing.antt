@@ -38,11 +38,11 @@ use Rattle.set_model.specs.declared.reached.Reached.TheVariants.{Upto, Unknown}
 use Rattle.set_model.specs.Changeover.{Obeyed, changed_over, answered, at_link, acknowledged_back, order_obeyed, obeyed}
 use Rattle.set_model.specs.Control.{Control, Basic, Cyclic, start_of, part_of, control_heard, window_heard}
 use Rattle.set_model.specs.Laws.{KeepsMessages}
-use Rattle.set_model.specs.Rows.{Row, body_at, service_indicator}
+use Rattle.set_model.specs.Rows.{Row, body_at, owner_at, is_managements}
 use Rattle.set_model.specs.Sound.{IsSound}
 use Rattle.set_model.specs.State.{given, LinkState, State, has_phase_settled, window_of}
 use Rattle.set_model.specs.Step.{Outcome, is_msu, one_if, brought, takes, after_control, controls, step}
-use Rattle.set_model.proofs.Events.{acknowledged}
+use Rattle.set_model.proofs.Events.{Kept, acknowledged}
 use Rattle.set_model.proofs.Framing.{window_moves}
 use Rattle.set_model.proofs.Lists.{get_set_same, within, same_at}
 use Rattle.set_model.proofs.Staying.{keeps_messages}
@@ -53,7 +53,7 @@ use Rattle.pair_model.proofs.Controls.{rules, one_link}
 use Rattle.pair_model.proofs.Counts.{takes_count}
 use Rattle.pair_model.proofs.Following.{takes_follows}
 use Rattle.pair_model.proofs.Sending.{standing_at, stands_so}
-use Rattle.pair_model.proofs.Tied.{AreBodies, IsUnitOf, AreUnits, KeepBodies, keep_bodies, stand_kept, bodies_kept, units_kept, bodies_joined, Side, IsGoing, Ties, Tied, follows}
+use Rattle.pair_model.proofs.Tied.{AreBodies, IsUnitOf, AreUnits, KeepBodies, keep_bodies, keeps_same, stand_kept, bodies_kept, units_kept, bodies_joined, Side, IsGoing, Ties, Tied, follows}
 
 -- WHAT BECAME OF A BODY: of each that was accepted something did.
 over_took : (reached : Reached) (n : ℕ) (link : LinkState) (phase : Phase) (s : State) (body : List ℕ)
@@ -92,9 +92,9 @@ obeyed_took None s body = refl
 obeyed_took (Some order) s body = order_took order s body
 
 pub took_some : (body : List ℕ) (s : State) → taken_by (takes (Some body) s).took body ≡ body ∷ []
-took_some body s = go (service_indicator body == 0) refl
+took_some body s = go (is_managements body) refl
   where
-    go : (b : Bool) → (service_indicator body == 0) ≡ b → taken_by (takes (Some body) s).took body ≡ body ∷ []
+    go : (b : Bool) → is_managements body ≡ b → taken_by (takes (Some body) s).took body ≡ body ∷ []
     go true e = rw e (obeyed_took (order_of s.settings.profile body) s body)
     go false e = rw e refl
 
@@ -207,8 +207,14 @@ module _ (l : ℕ) (mx my : Method) (one : IsOneMethod mx my) (x y : Side) (out 
         let same : m.0 ≡ mid_link = same_at mid.links l mid_link m.0 mid_there m.1 in
         subst (λ (k : LinkState). window_of l k mid.rows ≡ window_heard link.control window head) same m.3
 
+    abbrev mid_kept : Kept rows mid.rows
+    mid_kept = (acknowledged l part.acked rows).kept
+
     mid_same : (number : ℕ) → body_at number mid.rows ≡ body_at number rows
-    mid_same number = (acknowledged l part.acked rows).kept.bodies (given x.state) sound.numbered number
+    mid_same number = mid_kept.bodies (given x.state) sound.numbered number
+
+    mid_owned : (number : ℕ) → owner_at number mid.rows ≡ owner_at number rows
+    mid_owned number = mid_kept.owners (given x.state) sound.numbered number
 
     -- the law's world then
     abbrev heard_at : Option ℕ → List Carried → LinkWorld Control → LinkWorld Control
@@ -267,7 +273,7 @@ module _ (l : ℕ) (mx my : Method) (one : IsOneMethod mx my) (x y : Side) (out 
           → IsUnitOf y.state.rows (record { head = head; message = message }) unit → AreUnits y.state.rows behind rest
           → Ties l w x y out (unit ∷ rest) → Ties l (heard_at message behind w) mid_side y out rest
       mid_ties fits is left t =
-          let keep : KeepBodies rows mid.rows = λ number body e. mid_same number ∙ e in
+          let keep : KeepBodies rows mid.rows = keeps_same rows mid.rows mid_same mid_owned in
           let many = took_many link.control window unit mid in
           let before = t.near_counts link at.there in
           let counted : link.accepted + one_if part.accept ≡ length (x.taken ++ taken_by taken.took (body_in unit)) =
@@ -343,9 +349,11 @@ module _ (l : ℕ) (mx my : Method) (one : IsOneMethod mx my) (x y : Side) (out 
         let stepped = subst (λ (o : Outcome). KeepsMessages x.state o.state)
         (heard_is l unit link x.state (unit_fits w c.message c.behind c.comes c.msu t.profile (runs_at t) c.is) at)
         (keeps_messages x.state (Heard l unit) sound.numbered) in
-        let keep : KeepBodies mid.rows taken.state.rows =
-        λ number body e. keep_bodies x.state taken.state sound.numbered stepped number body
-        (sym (mid_same number) ∙ e) in
+        let stays = keep_bodies x.state taken.state sound.numbered stepped in
+        let keep : KeepBodies mid.rows taken.state.rows = record {
+          bodies = λ number body e. stays.bodies number body (sym (mid_same number) ∙ e);
+          owners = λ number users e. stays.owners number users (sym (mid_owned number) ∙ e);
+        } in
         follows l mx my hearing y out rest taken.state keep (takes_count l (brought part.accept unit) mid)
         (takes_follows l (brought part.accept unit) mid) (mid_tied t)
 

@@ -11,7 +11,7 @@ use Rattle.l2_units.specs.declared.unit.Unit.{Unit as SignalUnit}
 use Rattle.pair_steps.specs.Lines.{no_units, units_on}
 use Rattle.set_events.specs.declared.config.Method.{Method}
 use Rattle.set_events.specs.declared.config.SetConfig.{SetConfig}
-use Rattle.set_model.specs.Rows.{Row, body_at, is_unacked, unack, IsNumbered}
+use Rattle.set_model.specs.Rows.{Row, body_at, owner_at, is_unacked, unack, IsNumbered}
 use Rattle.set_model.specs.Sound.{IsSettings}
 use Rattle.set_model.specs.State.{given, LinkState, Settings, has_phase_settled, new_link, opened_with, settings_of}
 use Rattle.set_model.proofs.Soundness.{opened_sound}
@@ -20,7 +20,7 @@ use Rattle.pair_model.specs.Run.{Message, Past, messages, bodies, no_past, begun
 use Rattle.pair_model.proofs.Controls.{one_link}
 use Rattle.pair_model.proofs.Pairs.{Two, HoldsOf, side}
 use Rattle.pair_model.proofs.Rising.{unborn}
-use Rattle.pair_model.proofs.Sending.{body_there, stand_each, numbers_of_messages}
+use Rattle.pair_model.proofs.Sending.{row_there, stand_each, numbers_of_messages}
 use Rattle.pair_model.proofs.Tied.{StandIn, AreBodies, Side, Tied}
 
 -- bodies of the first of the numbers that were sent are the first of the bodies that were
@@ -34,7 +34,7 @@ first_bodies rows (n ∷ took) (b ∷ taken) [] are stand e = absurd cc
 first_bodies rows (n ∷ took) (b ∷ taken) (m ∷ sent) are stand e =
     let number : n ≡ m.number = cc in
     let rest : took ≡ take (length took) (map (λ (x : Message). x.number) sent) = cc in
-    let body : b ≡ m.body = same_Some b m.body (sym are.0 ∙ ap (λ (k : ℕ). body_at k rows) number ∙ stand.0) in
+    let body : b ≡ m.body = same_Some b m.body (sym are.0 ∙ ap (λ (k : ℕ). body_at k rows) number ∙ stand.0.0) in
     ap₂ (λ (x : List ℕ) (xs : List (List ℕ)). x ∷ xs) body (first_bodies rows took taken sent are.1 stand.1 rest)
 
 as_many : (rows : List Row) (took : List ℕ) (taken : List (List ℕ)) → AreBodies rows took taken → length taken ≡ length took
@@ -52,8 +52,9 @@ same_messages rows (x ∷ xs) [] a b e = absurd cc
 same_messages rows (x ∷ xs) (y ∷ ys) a b e =
     let number : x.number ≡ y.number = cc in
     let rest : map (λ (m : Message). m.number) xs ≡ map (λ (m : Message). m.number) ys = cc in
-    let body : x.body ≡ y.body = same_Some x.body y.body (sym a.0 ∙ ap (λ (k : ℕ). body_at k rows) number ∙ b.0) in
-    let one : x ≡ y = rw (number, body) refl in
+    let body : x.body ≡ y.body = same_Some x.body y.body (sym a.0.0 ∙ ap (λ (k : ℕ). body_at k rows) number ∙ b.0.0) in
+    let users : x.users ≡ y.users = same_Some x.users y.users (sym a.0.1 ∙ ap (λ (k : ℕ). owner_at k rows) number ∙ b.0.1) in
+    let one : x ≡ y = rw (number, body, users) refl in
     ap₂ (λ (m : Message) (ms : List Message). m ∷ ms) one (same_messages rows xs ys a.1 b.1 rest)
 
 stand_rest : (rows : List Row) (n : ℕ) (xs : List Message) → StandIn rows xs → StandIn rows (drop n xs)
@@ -86,7 +87,7 @@ kept_tied l mx my one x y out back numbered t =
             acked = omega (arith, g.acked, f.acked, many);
             unacked = same_messages x.state.rows (messages (unack l x.state.rows)) (drop link.acked x.sent)
                 (stand_each x.state.rows (unack l x.state.rows)
-                (λ i row e. body_there (given x.state) (λ r. is_unacked l r.fate) x.state.rows i row numbered e))
+                (λ i row e. row_there (given x.state) (λ r. is_unacked l r.fate) x.state.rows i row numbered e))
                 (stand_rest x.state.rows link.acked x.sent t.ties.near.stand)
                 (numbers_of_messages (unack l x.state.rows)
                 ∙ sym (ap (λ (v : WindowState). v.unacked) g.window)

@@ -19,7 +19,7 @@ use Rattle.set_model.specs.declared.phase.Phase.TheVariants.{Up}
 use Rattle.set_model.specs.Control.{Control, Choice, again, first, fill, start_of, choice_of, head_of, control_after, fsn_of}
 use Rattle.set_model.specs.Frame.{window_after}
 use Rattle.set_model.specs.Changeover.{cleared, is_overtaken, leading}
-use Rattle.set_model.specs.Rows.{Row, body_at, numbers, octets_in, is_unacked, is_waiting, unack, wait, IsNumbered}
+use Rattle.set_model.specs.Rows.{Row, is_users, body_at, owner_at, numbers, octets_in, is_unacked, is_waiting, unack, wait, IsNumbered}
 use Rattle.set_model.specs.Sound.{IsSound}
 use Rattle.set_model.specs.State.{all_finished, given, LinkState, State, has_phase_settled, window_of}
 use Rattle.set_model.specs.Step.{Outcome, next, chosen, unit_of, step}
@@ -31,14 +31,21 @@ use Rattle.set_model.proofs.Rows.{numbered_on, row_in_filter}
 use Rattle.set_model.proofs.Walk.{IsAt}
 use Rattle.pair_model.specs.Run.{Message, messages, first_sent}
 use Rattle.pair_model.proofs.Controls.{rules}
-use Rattle.pair_model.proofs.Tied.{StandIn, IsUnitOf, KeepBodies, stand_kept, bodies_kept, units_kept, stand_joined, units_joined, Side, IsGoing, Ties, Tied, withdraws as withdraws_tied}
+use Rattle.pair_model.proofs.Tied.{StandIn, IsUnitOf, KeepBodies, keeps_same, stand_kept, bodies_kept, units_kept, stand_joined, units_joined, Side, IsGoing, Ties, Tied, withdraws as withdraws_tied}
 
 -- Rows that are there stand there with their bodies.
 pub body_there : (given : ℕ) (p : Row → Bool) (rows : List Row) (i : ℕ) (row : Row) → IsNumbered given rows
     → slice_get (filter p rows) i ≡ Some row → body_at row.number rows ≡ Some row.body
 body_there given p rows i row numbered e = ap (option_map (λ (r : Row). r.body)) (row_in_filter given p rows i row.number row numbered e refl)
 
-pub stand_each : (rows ys : List Row) → ((i : ℕ) (row : Row) → slice_get ys i ≡ Some row → body_at row.number rows ≡ Some row.body) → StandIn rows (messages ys)
+-- and their owners
+pub row_there : (given : ℕ) (p : Row → Bool) (rows : List Row) (i : ℕ) (row : Row) → IsNumbered given rows → slice_get (filter p rows) i ≡ Some row
+    → (body_at row.number rows ≡ Some row.body) × (owner_at row.number rows ≡ Some row.users)
+row_there given p rows i row numbered e =
+    (body_there given p rows i row numbered e, ap (option_map is_users) (row_in_filter given p rows i row.number row numbered e refl))
+
+pub stand_each : (rows ys : List Row) → ((i : ℕ) (row : Row) → slice_get ys i ≡ Some row
+    → (body_at row.number rows ≡ Some row.body) × (owner_at row.number rows ≡ Some row.users)) → StandIn rows (messages ys)
 stand_each rows [] all = tt
 stand_each rows (y ∷ ys) all = (all 0 y refl, stand_each rows ys (λ i row e. all (suc i) row e))
 
@@ -75,7 +82,7 @@ told_at given p rows new i head numbered keep = go (slice_get (filter p rows) i)
       refl,
       slice_get-map (λ (r : Row). r.number) (filter p rows) i
           ∙ ap (option_map (λ (r : Row). r.number)) e,
-      keep row.number row.body (body_there given p rows i row numbered e),
+      keep.bodies row.number row.body (body_there given p rows i row numbered e),
     )
 
 told : (given l : ℕ) (link : LinkState) (rows new : List Row) (choice : Choice) (head : Header) → IsNumbered given rows
@@ -101,7 +108,9 @@ pub cleared_sound : (l : ℕ) (link : LinkState) (s : State) → IsAt l link Up 
 cleared_sound l link s at sound = withdraws (overtaken l s) l link s at (withdrawn_rows (overtaken l s) l s.rows) sound
 
 pub cleared_keeps : (l : ℕ) (s : State) → IsNumbered (given s) s.rows → KeepBodies s.rows (cleared l s).rows
-cleared_keeps l s numbered number body there = (withdrawn_rows (overtaken l s) l s.rows).kept.bodies (given s) numbered number ∙ there
+cleared_keeps l s numbered =
+    let kept = (withdrawn_rows (overtaken l s) l s.rows).kept in
+    keeps_same s.rows (cleared l s).rows (kept.bodies (given s) numbered) (kept.owners (given s) numbered)
 
 -- no message is sent by that
 pub cleared_sends : (l : ℕ) (s t : State) → first_sent l (cleared l s) t ≡ first_sent l s t
@@ -145,7 +154,9 @@ module _ (l : ℕ) (mx my : Method) (x y : Side) (out back : List SignalUnit) (l
   sent_link = record link { control = control_after choice octets link.control window }
 
   kept : KeepBodies rows after.rows
-  kept = λ number body there. (sent_by choice l rows).kept.bodies (given x.state) sound.numbered number ∙ there
+  kept =
+      let same = (sent_by choice l rows).kept in
+      keeps_same rows after.rows (same.bodies (given x.state) sound.numbered) (same.owners (given x.state) sound.numbered)
 
   numbered_after : IsNumbered (given after) after.rows
   numbered_after = numbered_on (all_finished x.state.finished) rows after.rows (sent_by choice l rows).kept.count
@@ -206,7 +217,7 @@ module _ (l : ℕ) (mx my : Method) (x y : Side) (out back : List SignalUnit) (l
           (stand_kept rows after.rows kept x.sent t.near.stand)
           (stand_dropped after.rows (length (unack l rows)) (unack l after.rows)
           (stand_each after.rows (unack l after.rows)
-          (λ i row e. body_there (given after) (λ r. is_unacked l r.fate) after.rows i row numbered_after e)));
+          (λ i row e. row_there (given after) (λ r. is_unacked l r.fate) after.rows i row numbered_after e)));
       took_is = t.near.took_is;
     };
     far = record { sent_is = t.far.sent_is; stand = t.far.stand; took_is = bodies_kept rows after.rows kept w.far.took y.taken t.far.took_is };

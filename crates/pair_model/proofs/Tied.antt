@@ -20,9 +20,10 @@ use Rattle.l2_window.specs.Window.{WindowState}
 use Rattle.set_events.specs.declared.config.Method.{Method}
 use Rattle.set_model.specs.Control.{Control, start_of}
 use Rattle.set_model.specs.Laws.{KeepsMessages}
-use Rattle.set_model.specs.Rows.{Row, body_at, numbers, unack, wait, IsNumbered}
+use Rattle.set_model.specs.Rows.{Fate, Row, is_users, row_of, body_at, owner_at, put_ahead, numbers, unack, wait, IsNumbered}
 use Rattle.set_model.specs.State.{given, LinkState, State, has_phase_settled, window_of}
 use Rattle.set_model.proofs.Rows.{row_is_first}
+use Rattle.set_model.proofs.Staying.{messages_stay}
 use Rattle.pair_model.specs.Run.{Message}
 use Rattle.pair_model.proofs.Controls.{rules}
 use Rattle.pair_model.proofs.Counts.{CountStays}
@@ -33,7 +34,8 @@ use Rattle.pair_model.proofs.Following.{Follows}
 -- each message has its body there
 abbrev pub StandIn : List Row → List Message → Type 0
 StandIn rows [] = Unit {0}
-StandIn rows (message ∷ messages) = (body_at message.number rows ≡ Some message.body) × StandIn rows messages
+StandIn rows (message ∷ messages) =
+    ((body_at message.number rows ≡ Some message.body) × (owner_at message.number rows ≡ Some message.users)) × StandIn rows messages
 
 -- the bodies of these numbers
 abbrev pub AreBodies : List Row → List ℕ → List (List ℕ) → Type 0
@@ -54,44 +56,69 @@ AreUnits rows (c ∷ cs) [] = ⊥
 AreUnits rows (c ∷ cs) (unit ∷ units) = IsUnitOf rows c unit × AreUnits rows cs units
 
 -- Rows that keep their bodies keep all this.
-abbrev pub KeepBodies : List Row → List Row → Type 0
-KeepBodies rows new = (number : ℕ) (body : List ℕ) → body_at number rows ≡ Some body → body_at number new ≡ Some body
+pub record KeepBodies (rows new : List Row) : Type 0 where
+  pub bodies : (number : ℕ) (body : List ℕ) → body_at number rows ≡ Some body → body_at number new ≡ Some body
+  pub owners : (number : ℕ) (users : Bool) → owner_at number rows ≡ Some users → owner_at number new ≡ Some users
+
+-- where each number that a row has finds the same
+pub keeps_same : (rows new : List Row) → ((number : ℕ) → body_at number new ≡ body_at number rows)
+    → ((number : ℕ) → owner_at number new ≡ owner_at number rows) → KeepBodies rows new
+keeps_same rows new bodies owners = record {
+  bodies = λ number body e. bodies number ∙ e;
+  owners = λ number users e. owners number ∙ e;
+}
+
+pub keeps_itself : (rows : List Row) → KeepBodies rows rows
+keeps_itself rows = keeps_same rows rows (λ number. refl) (λ number. refl)
 
 empty : {X : Type 0} (xs : List X) → length xs ≡ 0 → xs ≡ []
 empty [] e = refl
 empty (x ∷ xs) e = absurd (omega (arith, e))
 
-there_below : (given number : ℕ) (rows : List Row) (body : List ℕ) → IsNumbered given rows → body_at number rows ≡ Some body → number < given
-there_below given number rows body numbered there = go (nat_lt number given) refl
+there_below : {X : Type 0} (of : Row → X) (given number : ℕ) (rows : List Row) (x : X) → IsNumbered given rows
+    → option_map of (row_of number rows) ≡ Some x → number < given
+there_below of given number rows x numbered there = go (nat_lt number given) refl
   where
     go : (b : Bool) → nat_lt number given ≡ b → number < given
     go true e = ltb-true number given e
     go false e =
         let low = rw e at (numbered number) in
         let none = empty _ (omega (arith, low)) in
-        let no : None ≡ Some body = sym
-        (ap (option_map (λ (row : Row). row.body))
+        let no : None ≡ Some x = sym
+        (ap (option_map of)
         (row_is_first number rows ∙ ap (λ (xs : List Row). slice_get xs 0) none)) ∙ there in
         absurd cc
 
 pub keep_bodies : (s t : State) → IsNumbered (given s) s.rows → KeepsMessages s t → KeepBodies s.rows t.rows
-keep_bodies s t numbered kept number body there = kept.bodies number (there_below (given s) number s.rows body numbered there) ∙ there
+keep_bodies s t numbered kept = record {
+  bodies = λ number body there. kept.bodies number (there_below (λ (row : Row). row.body) (given s) number s.rows body numbered there) ∙ there;
+  owners = λ number users there. kept.owners number (there_below is_users (given s) number s.rows users numbered there) ∙ there;
+}
+
+-- a new message of the management's leaves the others alone
+pub keeps_put : (given : ℕ) (rows : List Row) (body : List ℕ) (fate : Fate) → IsNumbered given rows → KeepBodies rows (put_ahead given rows body fate)
+keeps_put given rows body fate numbered =
+    let stay = messages_stay (λ f. false) fate (λ row. fate) given rows numbered in
+    record {
+      bodies = λ number other there. (stay.ahead_others_stay body number (there_below (λ (row : Row). row.body) given number rows other numbered there)).0 ∙ there;
+      owners = λ number users there. (stay.ahead_others_stay body number (there_below is_users given number rows users numbered there)).1 ∙ there;
+    }
 
 module _ (rows new : List Row) (keep : KeepBodies rows new) where
   pub stand_kept : (messages : List Message) → StandIn rows messages → StandIn new messages
   stand_kept [] stand = stand
-  stand_kept (message ∷ messages) stand = (keep message.number message.body stand.0, stand_kept messages stand.1)
+  stand_kept (message ∷ messages) stand = ((keep.bodies message.number message.body stand.0.0, keep.owners message.number message.users stand.0.1), stand_kept messages stand.1)
 
   pub bodies_kept : (ns : List ℕ) (bodies : List (List ℕ)) → AreBodies rows ns bodies → AreBodies new ns bodies
   bodies_kept [] [] are = are
   bodies_kept [] (body ∷ bodies) are = are
   bodies_kept (n ∷ ns) [] are = are
-  bodies_kept (n ∷ ns) (body ∷ bodies) are = (keep n body are.0, bodies_kept ns bodies are.1)
+  bodies_kept (n ∷ ns) (body ∷ bodies) are = (keep.bodies n body are.0, bodies_kept ns bodies are.1)
 
   unit_kept : (c : Carried) (unit : SignalUnit) → IsUnitOf rows c unit → IsUnitOf new c unit
   unit_kept c (Fisu head) is = is
   unit_kept c (Lssu head status) is = is
-  unit_kept c (Msu head body) is = (is.0, is.1, is.2, keep is.0 body.items is.3)
+  unit_kept c (Msu head body) is = (is.0, is.1, is.2, keep.bodies is.0 body.items is.3)
 
   pub units_kept : (cs : List Carried) (units : List SignalUnit) → AreUnits rows cs units → AreUnits new cs units
   units_kept [] [] are = are

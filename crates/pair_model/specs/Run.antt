@@ -1,5 +1,5 @@
 -- A RUN OF TWO ENDS: a list of steps, carried out one after another, and what has passed between the ends by then.
-use Rattle.std.specs.Prelude.{ℕ, suc, ◌==◌, List, [], ◌∷◌, ◌++◌, length, map, drop, slice_get, Option, Some, if◌then◌else◌}
+use Rattle.std.specs.Prelude.{ℕ, Bool, not, suc, ◌==◌, List, [], ◌∷◌, ◌++◌, length, map, drop, slice_get, Option, Some, if◌then◌else◌}
 use Rattle.l2_units.specs.declared.unit.Unit.{Unit as SignalUnit}
 use Rattle.l2_units.specs.declared.unit.Unit.TheVariants.{Fisu, Lssu, Msu}
 use Rattle.set_events.specs.declared.answer.Answer.TheVariants.{Accepted, Heard}
@@ -9,7 +9,7 @@ use Rattle.set_events.specs.declared.config.SetConfig.{SetConfig}
 use Rattle.set_events.specs.declared.event.Event.{Event}
 use Rattle.set_events.specs.declared.event.Event.TheVariants.{Offer}
 use Rattle.set_model.specs.History.{new_set}
-use Rattle.set_model.specs.Rows.{Row, unack, stream_of}
+use Rattle.set_model.specs.Rows.{Row, is_managements, unack, stream_of}
 use Rattle.set_model.specs.State.{State}
 use Rattle.pair_steps.specs.declared.step.End.{End}
 use Rattle.pair_steps.specs.declared.step.End.TheVariants.{A, B}
@@ -36,13 +36,14 @@ abbrev pub played_from : ℕ → World → List Step → Played
 played_from place w [] = leads_to w
 played_from place w (step ∷ steps) = goes_on place (carried_out w step) (λ new. played_from (suc place) new steps)
 
--- THE PAST of an end. A message has the number under which it was accepted there, and its octets.
+-- THE PAST of an end. A message has the number under which it was accepted there, its octets, and whose it is.
 pub record Message : Type 0 where
   pub number : ℕ
   pub body : List ℕ
+  pub users : Bool
 
 abbrev pub messages : List Row → List Message
-messages rows = map (λ row. record { number = row.number; body = row.body }) rows
+messages rows = map (λ row. record { number = row.number; body = row.body; users = row.users }) rows
 
 abbrev pub bodies : List Message → List (List ℕ)
 bodies passed = map (λ message. message.body) passed
@@ -66,9 +67,13 @@ added_at number more of_number k = if k == number then of_number k ++ more else 
 abbrev pub cleared_at : {X : Type 0} → ℕ → (ℕ → List X) → ℕ → List X
 cleared_at number of_number k = if k == number then [] else of_number k
 
+-- a message whose octets tell whose it is
+abbrev pub message_by : ℕ → List ℕ → Message
+message_by number body = record { number = number; body = body; users = not (is_managements body) }
+
 -- OFFERED: the message that this answer accepts
 abbrev pub accepted_in : List ℕ → Shown → List Message
-accepted_in body (Answered (Accepted number)) = record { number = number; body = body } ∷ []
+accepted_in body (Answered (Accepted number)) = message_by number body ∷ []
 accepted_in body _ = []
 
 abbrev pub past_asked : Event → Shown → Past → Past
@@ -94,7 +99,7 @@ taken_by NothingTaken body = []
 taken_by _ body = body ∷ []
 
 abbrev pub got_by : Took → Option Message → List ℕ → List Message
-got_by TookMessage (Some message) body = record { number = message.number; body = body } ∷ []
+got_by TookMessage (Some message) body = message_by message.number body ∷ []
 got_by _ message body = []
 
 abbrev pub past_heard : ℕ → SignalUnit → List Message → Shown → Past → Past

@@ -13,7 +13,7 @@ use Rattle.pair_model.specs.Run.{Message}
 use Rattle.pair_model.proofs.Counts.{CountStays}
 use Rattle.pair_model.proofs.Following.{Follows}
 use Rattle.pair_model.proofs.Pairs.{Two, TiedAt, HoldsOf}
-use Rattle.pair_model.proofs.Tied.{follows}
+use Rattle.pair_model.proofs.Tied.{keeps_itself, follows}
 use Rattle.pair_changeover.specs.Pending.{pending, queue, acked_of, acked_on, accepted_of, accepted_on}
 use Rattle.pair_changeover.proofs.Changes.{Both, by_link}
 use Rattle.pair_changeover.proofs.Views.{view, last_of, last_on, Among, In, stands_aside, stayed, was_in, carries}
@@ -116,7 +116,7 @@ module _ (mx my : Method) (p : Two) (h : HoldsOf mx my p) (k : ℕ) (link new : 
     out_lines = h.out_lines ∙ sym same_count;
     back_lines = h.back_lines ∙ sym same_count;
     ties = each k (λ l. TiedAt l mx my (record p { near = then_near })) tied
-        (λ l d. follows l mx my _ _ _ _ then_near (λ number body e. e) (veil_counts k p.near new l d) (veil_follows k p.near new l d) (h.ties l));
+        (λ l d. follows l mx my _ _ _ _ then_near (keeps_itself _) (veil_counts k p.near new l d) (veil_follows k p.near new l d) (h.ties l));
   }
 
   pub shows_streams : {emergencies : Bool} → Streams emergencies p → Streams emergencies (record p { near = then_near })
@@ -135,6 +135,7 @@ module _ (mx my : Method) (p : Two) (h : HoldsOf mx my p) (k : ℕ) (link new : 
     near_covers = record {
       managed = w.near_covers.managed;
       numbered = w.near_covers.numbered;
+      marked = w.near_covers.marked;
       known = w.near_covers.known;
       gone = w.near_covers.gone;
     };
@@ -174,4 +175,4 @@ module _ (mx my : Method) (p : Two) (h : HoldsOf mx my p) (k : ℕ) (link : Link
       }
 
   pub recounts_tied : TiedAt k mx my (record p { near = counted })
-  recounts_tied = follows k mx my _ _ _ _ counted (λ number body e. e) counts follows_on (h.ties k)
+  recounts_tied = follows k mx my _ _ _ _ counted (keeps_itself _) counts follows_on (h.ties k)

@@ -2,7 +2,7 @@
 -- B's link comes up too, and B gets the message. It's a run as the laws want one (`is_run`), and the message is got
 -- (`got`). The other one is below. Nothing uses these theorems.
 use Rattle.l2_units.specs.declared.profile.Profile.TheVariants.{Narrow}
-use Rattle.std.proofs.Common.{refl, arith, ◌≡◌, ℕ, false, List, [], ◌∷◌, ◌++◌}
+use Rattle.std.proofs.Common.{refl, arith, ◌≡◌, ℕ, true, false, List, [], ◌∷◌, ◌++◌}
 use Rattle.set_events.specs.declared.config.Method.TheVariants.{Basic}
 use Rattle.set_events.specs.declared.config.SetConfig.{SetConfig}
 use Rattle.set_events.specs.declared.event.Event.TheVariants.{Offer, Down as DownEvent}
@@ -47,7 +47,7 @@ body = 133 ∷ 1 ∷ 128 ∷ 0 ∷ 48 ∷ []
 moves : List Move
 moves = Rise A 0 ∷ MoveStep (Act A (Offer body)) ∷ MoveStep (Emit A 0) ∷ Fill B 0 ∷ MoveStep (Arrive A 0) ∷ Rise B 0 ∷ MoveStep (Arrive B 0) ∷ []
 
-got : (run (opening config config) moves).stage.b.got 3 ≡ record { number = 0; body = body } ∷ []
+got : (run (opening config config) moves).stage.b.got 3 ≡ record { number = 0; body = body; users = true } ∷ []
 unfolding carried_out step config reached_by run body moves
 got = refl
 
@@ -94,7 +94,7 @@ missed_there = refl
 then_moves : List Move
 then_moves = MoveStep (Emit B 1) ∷ MoveStep (Arrive A 1) ∷ MoveStep (Emit A 1) ∷ MoveStep (Arrive B 1) ∷ Rise B 0 ∷ Rise A 0 ∷ []
 
-got_once : (run (opening two_links two_links) (first_moves ++ then_moves)).stage.b.got 2 ≡ record { number = 0; body = even } ∷ []
+got_once : (run (opening two_links two_links) (first_moves ++ then_moves)).stage.b.got 2 ≡ record { number = 0; body = even; users = true } ∷ []
 unfolding carried_out step two_links reached_by run even first_moves then_moves
 got_once = refl
 

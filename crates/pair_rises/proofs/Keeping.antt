@@ -34,7 +34,7 @@ use Rattle.pair_model.proofs.Moving.{same_side}
 use Rattle.pair_model.proofs.Moving as moving
 use Rattle.pair_model.proofs.Pairs.{Two, HoldsOf, TiedAt, swap, side, like, on_set, on_other, no_other, settings_stay}
 use Rattle.pair_model.proofs.Rising.{settled_at, new_side}
-use Rattle.pair_model.proofs.Tied.{KeepBodies, keep_bodies, Side, Tied, turned as turned_tie, follows}
+use Rattle.pair_model.proofs.Tied.{keeps_itself, KeepBodies, keep_bodies, Side, Tied, turned as turned_tie, follows}
 use Rattle.pair_rises.specs.Rises.{Cover, inside, awaited, missed, is_covered, closed, cover_of, told_at, seen_under, idle_unit, missed_by, missed_at, takes_order, order_about, covers_heard}
 use Rattle.pair_rises.proofs.Covers.{told_here, told_other, told_each, ft, told_fits, each}
 use Rattle.pair_rises.proofs.Heard as under_veils
@@ -74,7 +74,7 @@ pub same_tied : (l : ℕ) (mx my : Method) (s : State) (links : List LinkState) 
     → slice_get links l ≡ slice_get s.links l → Tied l mx my (record { state = s; sent = sent; taken = taken }) y out back
     → Tied l mx my (record { state = record s { links = links }; sent = sent; taken = taken }) y out back
 same_tied l mx my s links sent taken y out back same t =
-    follows l mx my (record { state = s; sent = sent; taken = taken }) y out back (record s { links = links }) (λ number body e. e)
+    follows l mx my (record { state = s; sent = sent; taken = taken }) y out back (record s { links = links }) (keeps_itself _)
     (λ after there. (after, sym same ∙ there, refl))
     (follows_untouched l s (record s { links = links }) same (untouched l s.rows s.rows refl)) t
 
@@ -408,7 +408,7 @@ module _ {mx my : Method} {ox oy : ℕ → Cover} {sx sy : State} {x_past y_past
         keep_up (up_follows l k sx (no_other k l d)) (count_stays l sx (UpEvent k) d) (h.links.ties l) in
         let two = seen_tied l oy oy_up sy sy h.sound_y h.sound_y h.fit_y fits_far refl (inl (told_other k awaited oy l (apart_back k l d))) my mx
         (y_past.sent l) (y_past.taken l) (side l (seen_under ox_up t_up) x_past) (units_on l back) (units_on l out)
-        (λ number body e. e) (follows_same l sy) (λ after there. (after, there, refl)) (turned_tie l mx my _ _ _ _ one) in
+        (keeps_itself _) (follows_same l sy) (λ after there. (after, there, refl)) (turned_tie l mx my _ _ _ _ one) in
         like l mx my (side l (seen_under ox_up t_up) x_past) (side l (seen_under ox_up t_up) (past_risen k x_past))
         (side l (seen_under oy_up sy) y_past) (side l (seen_under oy_up sy) (past_risen k y_past)) (units_on l out) _ (units_on l back) _
         (same_side refl (cleared_other l x_past.sent d) (cleared_other l x_past.taken d))

@@ -46,7 +46,7 @@ use Rattle.pair_model.specs.Run.{Message}
 use Rattle.pair_model.proofs.Counts.{CountStays}
 use Rattle.pair_model.proofs.Following.{follows_queued}
 use Rattle.pair_model.proofs.Pairs.{Two, HoldsOf}
-use Rattle.pair_model.proofs.Tied.{follows}
+use Rattle.pair_model.proofs.Tied.{keeps_put, follows}
 use Rattle.pair_changeover.proofs.Changes.{queues_both}
 use Rattle.pair_changeover.proofs.Texts.{coa_read, plain_in}
 use Rattle.pair_changeover.proofs.Views.{view, last_on, About, IsChangeover, NoneAbout, In}
@@ -54,7 +54,7 @@ use Rattle.pair_streams.proofs.Acting.{Streams}
 use Rattle.pair_streams.proofs.Codes.{far_carried, far_in}
 use Rattle.pair_streams.proofs.Declared.{coa_declares, coa_acknowledges}
 use Rattle.pair_streams.proofs.Flows.{order_in, order_z, queues_flow, queues_acks}
-use Rattle.set_model.proofs.Ahead.{put_bodies, put_length}
+use Rattle.set_model.proofs.Ahead.{put_length}
 use Rattle.pair_streams.proofs.Known.{order_covers}
 use Rattle.pair_streams.proofs.Rising.{rise_further}
 
@@ -86,7 +86,7 @@ module _ {emergencies : Bool} (mx my : Method) (p : Two) (h : HoldsOf mx my p) (
     far_links = h.far_links;
     out_lines = h.out_lines;
     back_lines = h.back_lines;
-    ties = λ n. follows n mx my _ _ _ _ told (put_bodies (given p.near) p.near.rows body (fate_on (target p.near.links)) h.near_sound.numbered) (same_counts n) (follows_queued n coa p.near) (h.ties n);
+    ties = λ n. follows n mx my _ _ _ _ told (keeps_put (given p.near) p.near.rows body (fate_on (target p.near.links)) h.near_sound.numbered) (same_counts n) (follows_queued n coa p.near) (h.ties n);
   }
 
   pub told_streams : Streams emergencies told_two

@@ -28,7 +28,7 @@ use Rattle.pair_model.proofs.Following.{Follows, up_follows}
 use Rattle.pair_model.proofs.Moving.{same_side}
 use Rattle.pair_model.proofs.Pairs.{Two, side, TiedAt, HoldsOf, on_set, on_other, no_other, like, settings_stay, goes_on}
 use Rattle.pair_model.proofs.Rising.{settled_at, new_side}
-use Rattle.pair_model.proofs.Tied.{KeepBodies, keep_bodies, Tied, turned, follows}
+use Rattle.pair_model.proofs.Tied.{keeps_itself, KeepBodies, keep_bodies, Tied, turned, follows}
 use Rattle.pair_changeover.specs.Pending.{queue, pending, acked_of, acked_on, accepted_of, accepted_on}
 use Rattle.pair_changeover.proofs.Arriving.{rises_at}
 use Rattle.pair_changeover.proofs.Passing.{Rises}
@@ -139,7 +139,7 @@ module _ (mx my : Method) (p : Two) (h : HoldsOf mx my p) (k : ℕ) (few : k < l
       let one = goes_on mx my p h (UpEvent k) l d (up_follows l k p.near (no_other k l d)) in
       let back = turned l mx my _ _ _ _ one in
       let two = follows l my mx (side l p.far p.far_past) (side l near_then p.near_past) (units_on l p.back)
-      (units_on l p.out) far_then (λ number body e. e) (veil_counts k p.far (dormant p.far.settings) l d)
+      (units_on l p.out) far_then (keeps_itself _) (veil_counts k p.far (dormant p.far.settings) l d)
       (veil_follows k p.far (dormant p.far.settings) l d) back in
       like l mx my (side l near_then p.near_past) (side l near_then (past_risen k p.near_past))
       (side l far_then p.far_past) (side l far_then (past_risen k p.far_past)) (units_on l p.out) _
@@ -198,6 +198,7 @@ module _ (mx my : Method) (p : Two) (h : HoldsOf mx my p) (k : ℕ) (few : k < l
           far_covers = record {
             managed = w.far_covers.managed;
             numbered = w.far_covers.numbered;
+            marked = w.far_covers.marked;
             known = w.far_covers.known;
             gone = w.far_covers.gone;
           };
@@ -312,6 +313,7 @@ module _ (mx my : Method) (s f : State) (near_past far_past : Past) (out back : 
           near_covers = covers_on _ _ s (UpEvent k) (λ body e. absurd cc) (record {
             managed = w.near_covers.managed;
             numbered = w.near_covers.numbered;
+            marked = w.near_covers.marked;
             known = w.near_covers.known;
             gone = w.near_covers.gone;
           });

@@ -35,7 +35,7 @@ use Rattle.pair_steps.specs.declared.step.Step.{Step}
 use Rattle.pair_steps.specs.declared.step.Step.TheVariants.{Act}
 use Rattle.pair_model.specs.World.{has_own_step}
 use Rattle.pair_model.specs.Promises.{IsOneMethod, IsSoundStep, IsQuietStep}
-use Rattle.pair_model.specs.Run.{Message, Past, messages, added_at, past_asked, past_sent}
+use Rattle.pair_model.specs.Run.{message_by, Message, Past, messages, added_at, past_asked, past_sent}
 use Rattle.pair_model.proofs.Moving as moving
 use Rattle.pair_model.proofs.Moving.{next_refused}
 use Rattle.pair_model.proofs.Pairs.{Two, swapped, HoldsOf, settings_stay}
@@ -88,7 +88,7 @@ abbrev pub IsLost : (ℕ → List Message) → ℕ → Type 0
 IsLost lost number = (stream : ℕ) × (m : Message) × Among m (lost stream) × (m.number ≡ number)
 
 abbrev pub Covered : Past → (ℕ → List Message) → State → Type 0
-Covered past lost s = Covers (λ number body. Among (record { number = number; body = body }) (past.offered (stream_of body))) (IsLost lost) s
+Covered past lost s = Covers (λ number body. Among (message_by number body) (past.offered (stream_of body))) (IsLost lost) s
 
 pub record Streams (emergencies : Bool) (p : Two) : Type 0 where
   pub ordered : Ordered emergencies p
@@ -267,15 +267,16 @@ covers_more stream more past lost t c =
     record {
       managed = c.managed;
       numbered = c.numbered;
+      marked = c.marked;
       gone = c.gone;
       known = λ number b e users. go number b (c.known number b e users) (stream_of b == stream) refl;
     }
   where
-    go : (number : ℕ) (b : List ℕ) → Among (record { number = number; body = b }) (past.offered (stream_of b))
+    go : (number : ℕ) (b : List ℕ) → Among (message_by number b) (past.offered (stream_of b))
         → (c : Bool) → (stream_of b == stream) ≡ c
-        → Among (record { number = number; body = b })
+        → Among (message_by number b)
         (cond c (past.offered (stream_of b) ++ more) (past.offered (stream_of b)))
-    go number b a true e = among_more (record { number = number; body = b }) (past.offered (stream_of b)) more a
+    go number b a true e = among_more (message_by number b) (past.offered (stream_of b)) more a
     go number b a false e = a
 
 offer_covers : (s : State) (past : Past) (lost : ℕ → List Message) (body : List ℕ) (o : Option SetRefusal)

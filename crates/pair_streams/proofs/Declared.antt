@@ -13,7 +13,7 @@ use Rattle.l2_units.specs.declared.profile.Profile.{Profile}
 use Rattle.l2_units.specs.declared.profile.Profile.TheVariants.{Narrow, Wide}
 use Rattle.set_model.specs.Changeover.{leaving_order}
 use Rattle.set_model.specs.State.{LinkState, Settings, last_accepted}
-use Rattle.pair_model.specs.Run.{Message}
+use Rattle.pair_model.specs.Run.{message_by, Message}
 use Rattle.pair_changeover.proofs.Views.{Among}
 use Rattle.pair_streams.specs.Streams.{those_of}
 use Rattle.pair_streams.proofs.Filtered.{none_both}
@@ -134,50 +134,50 @@ module _ (s : Settings) (l : ℕ) where
   told_link = label_number s.dpc s.opc l / 0x1000000 % 256 / 16
 
   -- a declaration tells its code alone
-  pub cbd_declares : (number code : ℕ) → s.sio % 16 ≡ 0 → Declares code (record { number = number; body = text s.profile (Cbd l code) s.sio s.dpc s.opc })
+  pub cbd_declares : (number code : ℕ) → s.sio % 16 ≡ 0 → Declares code (message_by number (text s.profile (Cbd l code) s.sio s.dpc s.opc))
   cbd_declares number code managed = record { link = told_link; is = rw (eq-eqb (s.sio % 16) 0 managed) refl }
 
-  pub cbd_other : (number code other : ℕ) → Declares other (record { number = number; body = text s.profile (Cbd l code) s.sio s.dpc s.opc }) → other ≡ code
+  pub cbd_other : (number code other : ℕ) → Declares other (message_by number (text s.profile (Cbd l code) s.sio s.dpc s.opc)) → other ≡ code
   cbd_other number code other d = go (s.sio % 16 == 0) d.is
     where
       go : (b : Bool) → InBoth b (Cbd (label_number s.dpc s.opc l / 0x1000000 % 256 / 16) code) ≡ Some (Cbd d.link other) → other ≡ code
       go true e = cc
       go false e = absurd cc
 
-  pub cbd_acknowledges : (number code other : ℕ) → Acknowledges other (record { number = number; body = text s.profile (Cbd l code) s.sio s.dpc s.opc }) → ⊥
+  pub cbd_acknowledges : (number code other : ℕ) → Acknowledges other (message_by number (text s.profile (Cbd l code) s.sio s.dpc s.opc)) → ⊥
   cbd_acknowledges number code other d = acknowledges_both other (Cbd told_link code) (λ n e. absurd cc) (s.sio % 16 == 0) d.link d.is
 
-  pub cba_other : (number code other : ℕ) → Acknowledges other (record { number = number; body = text s.profile (Cba l code) s.sio s.dpc s.opc }) → other ≡ code
+  pub cba_other : (number code other : ℕ) → Acknowledges other (record { number = number; body = text s.profile (Cba l code) s.sio s.dpc s.opc; users = false }) → other ≡ code
   cba_other number code other d = go (s.sio % 16 == 0) d.is
     where
       go : (b : Bool) → InBoth b (Cba (label_number s.dpc s.opc l / 0x1000000 % 256 / 16) code) ≡ Some (Cba d.link other) → other ≡ code
       go true e = cc
       go false e = absurd cc
 
-  pub cba_declares : (number code other : ℕ) → Declares other (record { number = number; body = text s.profile (Cba l code) s.sio s.dpc s.opc }) → ⊥
+  pub cba_declares : (number code other : ℕ) → Declares other (record { number = number; body = text s.profile (Cba l code) s.sio s.dpc s.opc; users = false }) → ⊥
   cba_declares number code other d = declares_both other (Cba told_link code) (λ n e. absurd cc) (s.sio % 16 == 0) d.link d.is
 
-  pub coo_declares : (number fsn other : ℕ) → Declares other (record { number = number; body = text s.profile (Coo l fsn) s.sio s.dpc s.opc }) → ⊥
+  pub coo_declares : (number fsn other : ℕ) → Declares other (record { number = number; body = text s.profile (Coo l fsn) s.sio s.dpc s.opc; users = false }) → ⊥
   coo_declares number fsn other d = coo_declares_in s.profile s.sio s.dpc s.opc l fsn other d.link d.is
 
-  pub coo_acknowledges : (number fsn other : ℕ) → Acknowledges other (record { number = number; body = text s.profile (Coo l fsn) s.sio s.dpc s.opc }) → ⊥
+  pub coo_acknowledges : (number fsn other : ℕ) → Acknowledges other (record { number = number; body = text s.profile (Coo l fsn) s.sio s.dpc s.opc; users = false }) → ⊥
   coo_acknowledges number fsn other d = coo_acknowledges_in s.profile s.sio s.dpc s.opc l fsn other d.link d.is
 
-  pub coa_declares : (number fsn other : ℕ) → Declares other (record { number = number; body = text s.profile (Coa l fsn) s.sio s.dpc s.opc }) → ⊥
+  pub coa_declares : (number fsn other : ℕ) → Declares other (record { number = number; body = text s.profile (Coa l fsn) s.sio s.dpc s.opc; users = false }) → ⊥
   coa_declares number fsn other d = coa_declares_in s.profile s.sio s.dpc s.opc l fsn other d.link d.is
 
-  pub coa_acknowledges : (number fsn other : ℕ) → Acknowledges other (record { number = number; body = text s.profile (Coa l fsn) s.sio s.dpc s.opc }) → ⊥
+  pub coa_acknowledges : (number fsn other : ℕ) → Acknowledges other (record { number = number; body = text s.profile (Coa l fsn) s.sio s.dpc s.opc; users = false }) → ⊥
   coa_acknowledges number fsn other d = coa_acknowledges_in s.profile s.sio s.dpc s.opc l fsn other d.link d.is
 
-  pub eco_declares : (number other : ℕ) → Declares other (record { number = number; body = text s.profile (Eco l) s.sio s.dpc s.opc }) → ⊥
+  pub eco_declares : (number other : ℕ) → Declares other (record { number = number; body = text s.profile (Eco l) s.sio s.dpc s.opc; users = false }) → ⊥
   eco_declares number other d = declares_both other (Eco told_link) (λ n e. absurd cc) (s.sio % 16 == 0) d.link d.is
 
-  pub eco_acknowledges : (number other : ℕ) → Acknowledges other (record { number = number; body = text s.profile (Eco l) s.sio s.dpc s.opc }) → ⊥
+  pub eco_acknowledges : (number other : ℕ) → Acknowledges other (record { number = number; body = text s.profile (Eco l) s.sio s.dpc s.opc; users = false }) → ⊥
   eco_acknowledges number other d = acknowledges_both other (Eco told_link) (λ n e. absurd cc) (s.sio % 16 == 0) d.link d.is
 
 -- nor does the order with which a link is left
 pub leaving_declares : (s : Settings) (l : ℕ) (blind : Bool) (link : LinkState) (number other : ℕ)
-    → Declares other (record { number = number; body = text s.profile (leaving_order blind l link) s.sio s.dpc s.opc })
+    → Declares other (record { number = number; body = text s.profile (leaving_order blind l link) s.sio s.dpc s.opc; users = false })
     → ⊥
 leaving_declares s l false link number other d = coo_declares s l number (last_accepted link) other d
 leaving_declares s l true link number other d = eco_declares s l number other d
@@ -186,6 +186,7 @@ pub leaving_acknowledges : (s : Settings) (l : ℕ) (blind : Bool) (link : LinkS
     → Acknowledges other (record {
       number = number;
       body = text s.profile (leaving_order blind l link) s.sio s.dpc s.opc;
+      users = false;
     }) → ⊥
 leaving_acknowledges s l false link number other d = coo_acknowledges s l number (last_accepted link) other d
 leaving_acknowledges s l true link number other d = eco_acknowledges s l number other d

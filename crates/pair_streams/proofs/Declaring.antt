@@ -37,7 +37,7 @@ use Rattle.pair_streams.proofs.Codes.{Clear, Flows, IsNumber, Kept, NewAcknowled
 use Rattle.pair_streams.proofs.Declared.{Declares, Acknowledges, NoneDeclares, ClearBehind, clear_after, cbd_other, cbd_acknowledges}
 use Rattle.pair_streams.proofs.Filtered.{joins_none, both_true}
 use Rattle.pair_streams.proofs.Flowing.{back_by, queue_at, waits_by, Stands, none_back_by}
-use Rattle.pair_streams.proofs.Flows.{no_stream}
+use Rattle.pair_streams.proofs.Flows.{no_stream_by}
 use Rattle.pair_streams.proofs.Moving.{Comes, comes_last, those_stay, grows_on, grows_aside, in_new, queue_stays, stands_stays, apart_kept}
 
 is_free_so : (c : Code) → is_free c ≡ true → c ≡ Free
@@ -88,7 +88,7 @@ module _ (home alternative : ℕ) (s f : State) (sound : IsSound s) (home_open :
   new_at l = to_wait alternative (λ same. held_open s l sound (subst (λ (n : ℕ). is_open n s ≡ true) (eqb-true alternative l same) alternative_is_open))
 
   of_none : (stream : ℕ) → is_of stream z ≡ false
-  of_none stream = no_stream stream s.settings.sio (given s)
+  of_none stream = no_stream_by stream s.settings.sio (given s)
       (label s.settings.dpc s.settings.opc home
       ++ heading_of (Cbd home code) ∷ content_with s.settings.profile 0 (Cbd home code)) sound.managed
 

@@ -4,12 +4,12 @@
 -- stream's rows pick the same. Most are inductions on the list, case by case on what the tests tell of its first.
 -- Flowing.antt, Moving.antt, Settled.antt, Turned.antt, Returned.antt, Given.antt and Runs.antt argue with them, stream
 -- by stream.
-use Rattle.std.proofs.Common.{refl, ◌≡◌, ◌∙◌, ap, sym, ℕ, zero, suc, ◌==◌, Bool, true, false, not, ◌&&◌, List, [], ◌∷◌, ◌++◌, map, filter, drop, cond, ◌⊎◌, inl, inr}
+use Rattle.std.proofs.Common.{refl, ◌≡◌, ◌∙◌, ap, sym, ℕ, zero, suc, ◌==◌, Bool, true, false, ◌&&◌, List, [], ◌∷◌, ◌++◌, map, filter, drop, cond, ◌⊎◌, inl, inr}
 use Rattle.std.proofs.lemmas.Bool.{eqb-true}
 use Rattle.std.proofs.lemmas.List.{append-nil}
 use Rattle.std.proofs.lemmas.List.Elements.{filter-append}
 use Rattle.set_events.specs.declared.answer.Fate.{Fate}
-use Rattle.set_model.specs.Rows.{Row, stream_of, service_indicator, standing, fated, unack, wait, held, Each}
+use Rattle.set_model.specs.Rows.{Row, stream_of, standing, fated, unack, wait, held, Each}
 use Rattle.pair_model.specs.Run.{Message, messages}
 use Rattle.pair_changeover.specs.Pending.{queue}
 use Rattle.pair_changeover.proofs.Table.{joined}
@@ -35,10 +35,10 @@ one_none stream z e = rw e refl
 pub none_dropped : (stream count : ℕ) (rows : List Row) → those_of stream (messages rows) ≡ [] → those_of stream (messages (drop count rows)) ≡ []
 none_dropped stream zero rows e = e
 none_dropped stream (suc n) [] e = refl
-none_dropped stream (suc n) (row ∷ rows) e = none_dropped stream n rows (go (is_of stream (record { number = row.number; body = row.body })) refl)
+none_dropped stream (suc n) (row ∷ rows) e = none_dropped stream n rows (go (is_of stream (record { number = row.number; body = row.body; users = row.users })) refl)
   where
-    go : (b : Bool) → is_of stream (record { number = row.number; body = row.body }) ≡ b → those_of stream (messages rows) ≡ []
-    go true h = let no : record { number = row.number; body = row.body } ∷ those_of stream (messages rows) ≡ [] = rw h at e in absurd cc
+    go : (b : Bool) → is_of stream (record { number = row.number; body = row.body; users = row.users }) ≡ b → those_of stream (messages rows) ≡ []
+    go true h = let no : record { number = row.number; body = row.body; users = row.users } ∷ those_of stream (messages rows) ≡ [] = rw h at e in absurd cc
     go false h = rw h at e
 
 -- ROWS THAT TURN, as a filter of those that were there
@@ -52,30 +52,30 @@ turned_filter test other fate (row ∷ rows) = go (test row.fate) (other (fate r
         → messages (standing other (map (fated fate) (standing test rows)))
         ≡ messages (filter (λ r. test r.fate && other (fate r)) rows)
         → messages (standing other (map (fated fate) (standing test (row ∷ rows)))) ≡ messages (filter (λ r. test r.fate && other (fate r)) (row ∷ rows))
-    go true true e g rest = rw (e, g) (ap (λ (q : List Message). record { number = row.number; body = row.body } ∷ q) rest)
+    go true true e g rest = rw (e, g) (ap (λ (q : List Message). record { number = row.number; body = row.body; users = row.users } ∷ q) rest)
     go true false e g rest = rw (e, g) rest
     go false c e g rest = rw e rest
 
 -- TWO TESTS that tell the same of a stream's rows
 pub picked : (stream : ℕ) (P Q : Row → Bool) (rows : List Row)
-    → Each (λ row. is_of stream (record { number = row.number; body = row.body }) ≡ true → P row ≡ Q row) rows
+    → Each (λ row. is_of stream (record { number = row.number; body = row.body; users = row.users }) ≡ true → P row ≡ Q row) rows
     → those_of stream (messages (filter P rows)) ≡ those_of stream (messages (filter Q rows))
 picked stream P Q [] same = refl
 picked stream P Q (row ∷ rows) same =
-    go (is_of stream (record { number = row.number; body = row.body })) refl (P row) (Q row) refl refl
+    go (is_of stream (record { number = row.number; body = row.body; users = row.users })) refl (P row) (Q row) refl refl
     (picked stream P Q rows same.1)
   where
-    go : (own : Bool) → is_of stream (record { number = row.number; body = row.body }) ≡ own → (b c : Bool) → P row ≡ b
+    go : (own : Bool) → is_of stream (record { number = row.number; body = row.body; users = row.users }) ≡ own → (b c : Bool) → P row ≡ b
         → Q row ≡ c → those_of stream (messages (filter P rows)) ≡ those_of stream (messages (filter Q rows))
         → those_of stream (messages (filter P (row ∷ rows))) ≡ those_of stream (messages (filter Q (row ∷ rows)))
     go own o true true e g rest = rw (e, g) (agrees own o)
       where
-        agrees : (own : Bool) → is_of stream (record { number = row.number; body = row.body }) ≡ own
-            → cond (is_of stream (record { number = row.number; body = row.body }))
-            (record { number = row.number; body = row.body } ∷ those_of stream (messages (filter P rows)))
+        agrees : (own : Bool) → is_of stream (record { number = row.number; body = row.body; users = row.users }) ≡ own
+            → cond (is_of stream (record { number = row.number; body = row.body; users = row.users }))
+            (record { number = row.number; body = row.body; users = row.users } ∷ those_of stream (messages (filter P rows)))
             (those_of stream (messages (filter P rows)))
-            ≡ cond (is_of stream (record { number = row.number; body = row.body }))
-            (record { number = row.number; body = row.body } ∷ those_of stream (messages (filter Q rows)))
+            ≡ cond (is_of stream (record { number = row.number; body = row.body; users = row.users }))
+            (record { number = row.number; body = row.body; users = row.users } ∷ those_of stream (messages (filter Q rows)))
             (those_of stream (messages (filter Q rows)))
         agrees own o = rw rest refl
     go own o false false e g rest = rw (e, g) rest
@@ -109,7 +109,7 @@ both_true true false e = absurd cc
 both_true false b e = absurd cc
 
 pub of_stream : (stream : ℕ) (m : Message) → is_of stream m ≡ true → stream_of m.body ≡ stream
-of_stream stream m own = eqb-true (stream_of m.body) stream (both_true (not (service_indicator m.body == 0)) (stream_of m.body == stream) own).1
+of_stream stream m own = eqb-true (stream_of m.body) stream (both_true m.users (stream_of m.body == stream) own).1
 
 -- a test, and all of it or none
 pub and_so : (stream : ℕ) (test : Fate → Bool) (b : Bool) (rows : List Row)
@@ -122,7 +122,7 @@ and_so stream test true rows = picked stream (λ row. test row.fate && true) (λ
     and_true false = refl
 
     always : (rows : List Row) → Each
-        (λ row. is_of stream (record { number = row.number; body = row.body }) ≡ true
+        (λ row. is_of stream (record { number = row.number; body = row.body; users = row.users }) ≡ true
         → (test row.fate && true) ≡ test row.fate) rows
     always [] = tt
     always (row ∷ rows) = ((λ own. and_true (test row.fate)), always rows)
@@ -132,7 +132,7 @@ and_so stream test false rows = picked stream (λ row. test row.fate && false) (
     and_false true = refl
     and_false false = refl
 
-    always : (rows : List Row) → Each (λ row. is_of stream (record { number = row.number; body = row.body }) ≡ true → (test row.fate && false) ≡ false) rows
+    always : (rows : List Row) → Each (λ row. is_of stream (record { number = row.number; body = row.body; users = row.users }) ≡ true → (test row.fate && false) ≡ false) rows
     always [] = tt
     always (row ∷ rows) = ((λ own. and_false (test row.fate)), always rows)
 
@@ -142,14 +142,14 @@ pub none_within : (stream : ℕ) (some all : Fate → Bool) → ((fate : Fate) �
     → those_of stream (messages (standing some rows)) ≡ []
 none_within stream some all within [] e = refl
 none_within stream some all within (row ∷ rows) e =
-    go (some row.fate) (all row.fate) (is_of stream (record { number = row.number; body = row.body })) refl refl refl
+    go (some row.fate) (all row.fate) (is_of stream (record { number = row.number; body = row.body; users = row.users })) refl refl refl
     (λ f. none_within stream some all within rows f)
   where
     go : (b c d : Bool) → some row.fate ≡ b → all row.fate ≡ c
-        → is_of stream (record { number = row.number; body = row.body }) ≡ d
+        → is_of stream (record { number = row.number; body = row.body; users = row.users }) ≡ d
         → (those_of stream (messages (standing all rows)) ≡ [] → those_of stream (messages (standing some rows)) ≡ [])
         → those_of stream (messages (standing some (row ∷ rows))) ≡ []
-    go b true true g h k later = let never : record { number = row.number; body = row.body } ∷ those_of stream
+    go b true true g h k later = let never : record { number = row.number; body = row.body; users = row.users } ∷ those_of stream
         (messages (standing all rows)) ≡ [] = rw (h, k) at e in absurd cc
     go true true false g h k later = rw (g, k) (later (rw (h, k) at e))
     go false true false g h k later = rw g (later (rw (h, k) at e))

@@ -54,7 +54,7 @@ pub record Stands (stream : ℕ) (place : Place) (s f : State) : Type 0 where
 -- a row that stands back is of a stream that comes back by its code
 waiting_row : (routing : Routing) (stream code : ℕ) (row : Row) (fate : Fate)
     → waits_by (place_of stream routing) code ≡ false
-    → is_of stream (record { number = row.number; body = row.body }) ≡ true → IsBackOf routing row fate
+    → is_of stream (record { number = row.number; body = row.body; users = row.users }) ≡ true → IsBackOf routing row fate
     → is_back code fate ≡ false
 waiting_row routing stream code row (Back c) apart own b = go (c == code) refl
   where
@@ -63,7 +63,7 @@ waiting_row routing stream code row (Back c) apart own b = go (c == code) refl
     go true e =
         let is : place_of stream routing ≡ Changing (home_of c) c b.2 =
         ap (λ (n : ℕ). place_of n routing)
-        (sym (of_stream stream (record { number = row.number; body = row.body }) own)) ∙ b.3 in
+        (sym (of_stream stream (record { number = row.number; body = row.body; users = row.users }) own)) ∙ b.3 in
         let no : true ≡ false = sym e ∙ ap (λ (p : Place). waits_by p code) (sym is) ∙ apart in
         absurd cc
 waiting_row routing stream code row (Waiting l) apart own b = refl
@@ -77,6 +77,6 @@ pub none_back_by : (stream code : ℕ) (s : State) → IsSound s → waits_by (p
 none_back_by stream code s sound apart =
     picked stream (λ row. is_back code row.fate) (λ row. false) s.rows
     (each_so (λ row. IsBackOf s.routing row row.fate)
-    (λ row. is_of stream (record { number = row.number; body = row.body }) ≡ true → is_back code row.fate ≡ false)
+    (λ row. is_of stream (record { number = row.number; body = row.body; users = row.users }) ≡ true → is_back code row.fate ≡ false)
     (λ row b own. waiting_row s.routing stream code row row.fate apart own b) s.rows sound.backs)
     ∙ ap (those_of stream) (never_picked s.rows)

@@ -20,10 +20,10 @@ use Rattle.set_model.specs.Sound.{IsSound}
 use Rattle.set_model.specs.State.{given, State, is_open, fate_at, target}
 use Rattle.set_model.specs.Step.{offered as offered_step}
 use Rattle.set_model.proofs.Places.{itself, apart_back}
-use Rattle.pair_model.specs.Run.{Message, added_at}
+use Rattle.pair_model.specs.Run.{message_by, Message, added_at}
 use Rattle.pair_changeover.specs.Pending.{pending, aside, acked_on, accepted_on}
 use Rattle.pair_changeover.proofs.Changes.{Grows, grown, ungrown, IsNew, to_wait, to_hold, to_park, to_back, held_open}
-use Rattle.pair_changeover.proofs.Table.{new_message}
+use Rattle.pair_changeover.proofs.Table.{new_message, new_order_message}
 use Rattle.pair_changeover.proofs.Texts.{plain_body}
 use Rattle.pair_changeover.proofs.Views.{view, In}
 use Rattle.pair_streams.specs.Streams.{is_of, those_of}
@@ -35,8 +35,11 @@ use Rattle.pair_streams.proofs.Flowing.{back_by, queue_at, here, runs_by, runs_n
 use Rattle.pair_streams.proofs.Moving.{those_out, those_in, grows_on, grows_aside, grows_back, comes_last, comes_ahead, in_new, apart_kept}
 
 -- an order is of no stream
-pub no_stream : (stream : ℕ) (sio number : ℕ) (rest : List ℕ) → sio % 16 ≡ 0 → is_of stream (record { number = number; body = sio ∷ rest }) ≡ false
-no_stream stream sio number rest e = rw (eq-eqb (sio % 16) 0 e) refl
+pub no_stream : (stream : ℕ) (sio number : ℕ) (rest : List ℕ) → sio % 16 ≡ 0 → is_of stream (record { number = number; body = sio ∷ rest; users = false }) ≡ false
+no_stream stream sio number rest e = refl
+
+pub no_stream_by : (stream : ℕ) (sio number : ℕ) (rest : List ℕ) → sio % 16 ≡ 0 → is_of stream (message_by number (sio ∷ rest)) ≡ false
+no_stream_by stream sio number rest e = rw (eq-eqb (sio % 16) 0 e) refl
 
 -- AN ORDER IS QUEUED that declares nothing
 module _ (order : Order) (s f : State) (sound : IsSound s) where
@@ -44,7 +47,7 @@ module _ (order : Order) (s f : State) (sound : IsSound s) where
   body = text s.settings.profile order s.settings.sio s.settings.dpc s.settings.opc
 
   abbrev pub order_z : Message
-  order_z = new_message (given s) body
+  order_z = new_order_message (given s) body
 
   pub order_in : (m : Message) → In m (view (queued order s) f) → In m (view s f) ⊎ (m ≡ order_z)
   order_in = in_new s (queued order s) f order_z (fate_on (target s.links)) (comes_ahead order s f)

@@ -30,7 +30,7 @@ use Rattle.pair_steps.specs.declared.step.Shown.TheVariants.{Answered, Up as Cam
 use Rattle.pair_steps.specs.declared.step.Step.{Step}
 use Rattle.pair_steps.specs.declared.step.Step.TheVariants.{Act, Emit, Arrive, Lose, Together, Inject}
 use Rattle.pair_model.specs.World.{Outcome, shows, impossible, exhausted, at_end, with_end, line_to, with_line, actor_of, answer_to, after, is_full, has_link, has_actor, acts, with_sent, sends_on, emits, reaches, front_arrives, arrives, loses, risen, is_settled_at_both, rises, has_own_step, done_by, carried_out}
-use Rattle.pair_model.specs.Run.{Message, Past, Stage, bodies, begun, body_in, added_at, past_asked, past_sent, past_risen, past_heard, past_arrived, with_past, passed, OnShows, HoldsAlong}
+use Rattle.pair_model.specs.Run.{message_by, Message, Past, Stage, bodies, begun, body_in, added_at, past_asked, past_sent, past_risen, past_heard, past_arrived, with_past, passed, OnShows, HoldsAlong}
 use Rattle.pair_model.specs.Promises.{IsHonestStep, IsSoundStep, IsQuietStep, IsSoundRun, AreSteps, LinksKeep}
 use Rattle.pair_model.proofs.Runs.{is_honest, every_honest_run}
 use Rattle.pair_streams.specs.Handed.{handed_by, delivered_by, handed_in, bodies_of, taken_of, UsersTakeAll, UsersTakeFirst, UsersTakePart, EveryHonestRunHandsOutAll, EverySoundRunHandsOutInOrder, EveryQuietRunHandsOutAPart}
@@ -111,17 +111,17 @@ module _ (k : ℕ) (unit : SignalUnit) (sent : List Message) (past : Past) (set 
   none_got stream = none_joins stream ∙ ap bodies (sym (added_none (stream_of (body_in unit)) stream past.got))
 
   one_got : (number stream : ℕ) → bodies_of stream (passes set ++ body_in unit ∷ [])
-      ≡ bodies (added_at (stream_of (body_in unit)) (record { number = number; body = body_in unit } ∷ []) past.got
+      ≡ bodies (added_at (stream_of (body_in unit)) (message_by number (body_in unit) ∷ []) past.got
       stream)
   one_got number stream = filter-append (λ body. stream == stream_of body) (passes set) (body_in unit ∷ []) ∙ go (stream == stream_of (body_in unit)) refl
     where
       go : (own : Bool) → (stream == stream_of (body_in unit)) ≡ own
           → bodies_of stream (passes set) ++ bodies_of stream (body_in unit ∷ [])
-          ≡ bodies (added_at (stream_of (body_in unit)) (record { number = number; body = body_in unit } ∷ []) past.got
+          ≡ bodies (added_at (stream_of (body_in unit)) (message_by number (body_in unit) ∷ []) past.got
           stream)
       go true e = rw e (ap (λ (q : List (List ℕ)). q ++ body_in unit ∷ []) (t stream)
           ∙ sym (map-append (λ (m : Message). m.body) (past.got stream)
-          (record { number = number; body = body_in unit } ∷ [])))
+          (message_by number (body_in unit) ∷ [])))
       go false e = rw e (append-nil (bodies_of stream (passes set)) ∙ t stream)
 
   message_joins : (report : Report) → report.took ≡ TookMessage → Joins (Heard report)

@@ -4,7 +4,7 @@
 -- Obeying.antt) keeps both directions, from Settled.antt, Blindly.antt, Turned.antt, Flows.antt and Returned.antt
 -- (`obeyed_then`). The case that matters: a CBD that is heard stood behind all of its streams on that link, so when
 -- it's acknowledged nothing of them is left to arrive (`empty_there`). No induction; Runs.antt uses it.
-use Rattle.std.proofs.Common.{refl, arith, ◌≡◌, ◌≢◌, ◌∙◌, ap, sym, subst, ℕ, ◌<◌, ◌==◌, ◌-◌, Bool, true, false, List, [], ◌∷◌, ◌++◌, length, slice_get, Option, Some, None, append_assoc, cond, ◌⊎◌, inl, inr}
+use Rattle.std.proofs.Common.{◌&&◌, not, refl, arith, ◌≡◌, ◌≢◌, ◌∙◌, ap, sym, subst, ℕ, ◌<◌, ◌==◌, ◌-◌, Bool, true, false, List, [], ◌∷◌, ◌++◌, length, slice_get, Option, Some, None, append_assoc, cond, ◌⊎◌, inl, inr}
 use Rattle.std.proofs.lemmas.Bool.{eqb-true, eq-eqb}
 use Rattle.l2_units.specs.declared.unit.Unit.{Unit as SignalUnit}
 use Rattle.l3_orders.specs.declared.order.Order.{Order}
@@ -28,7 +28,7 @@ use Rattle.set_model.specs.declared.phase.Phase.TheVariants.{Up, Down, Settled}
 use Rattle.set_model.specs.declared.reached.Reached.{Reached}
 use Rattle.set_model.specs.declared.reached.Reached.TheVariants.{Upto, Unknown}
 use Rattle.set_model.specs.Changeover.{Obeyed, changed_over, answered, at_link, acknowledged_back, order_obeyed, obeyed, left_link, left_by, acknowledged_code, queued, settled}
-use Rattle.set_model.specs.Rows.{is_unacked, is_back, place, stream_of, service_indicator}
+use Rattle.set_model.specs.Rows.{is_unacked, is_back, place, stream_of, is_managements, service_indicator}
 use Rattle.set_model.specs.Sound.{IsSound}
 use Rattle.set_model.specs.State.{given, LinkState, State, last_accepted}
 use Rattle.set_model.specs.Step.{brought, step}
@@ -36,7 +36,7 @@ use Rattle.set_model.proofs.Rows.{turned_same}
 use Rattle.set_model.proofs.Places.{apart_back}
 use Rattle.set_model.proofs.Walk.{IsAt}
 use Rattle.pair_model.specs.Promises.{IsOneMethod}
-use Rattle.pair_model.specs.Run.{Message, Past, messages, body_in, got_by, added_at}
+use Rattle.pair_model.specs.Run.{message_by, Message, Past, messages, body_in, got_by, added_at}
 use Rattle.pair_model.proofs.Pairs.{Two, HoldsOf}
 use Rattle.pair_changeover.specs.Pending.{queue, pending, aside, acked_on, accepted_of, accepted_on}
 use Rattle.pair_changeover.proofs.Blind.{blind_accepted}
@@ -356,6 +356,13 @@ module _ {emergencies : Bool} (mx my : Method) (one : IsOneMethod mx my) (p : Tw
     is_body : body_in unit ≡ body
     is_body = hearing.is_body mx my one p h v.ordered.both k few unit rest front link at body e
 
+    -- its octets tell whose it is
+    first_mark : first.users ≡ not (is_managements first.body)
+    first_mark = hearing.first_marked mx my one p h v.ordered.both k few unit rest front link at body e
+
+    own_mark : first.users ≡ not (service_indicator body == 0)
+    own_mark = first_mark ∙ ap (λ (b : List ℕ). not (is_managements b)) first_body
+
     first_is : pending k p.far p.near ≡ first ∷ pending k p.far mid
     first_is = hearing.first_is mx my one p h v.ordered.both k few unit rest front link at body e
 
@@ -440,7 +447,8 @@ module _ {emergencies : Bool} (mx my : Method) (one : IsOneMethod mx my) (p : Tw
           ap (λ (t : Took). got_by t (slice_get (p.far_past.sent k) (length (p.near_past.taken k))) (body_in unit)) took_it
           ∙ ap (λ (m : Option Message). got_by TookMessage m (body_in unit))
           (hearing.first_sent mx my one p h v.ordered.both k few unit rest front link at body e)
-          ∙ ap (λ (b : List ℕ). record { number = first.number; body = b } ∷ []) (is_body ∙ sym first_body)
+          ∙ ap (λ (b : List ℕ). message_by first.number b ∷ []) (is_body ∙ sym first_body)
+          ∙ ap (λ (u : Bool). record { number = first.number; body = first.body; users = u } ∷ []) (sym first_mark)
 
       users_got : Got
       users_got stream low = go (stream == stream_of (body_in unit)) refl
@@ -452,11 +460,7 @@ module _ {emergencies : Bool} (mx my : Method) (one : IsOneMethod mx my) (p : Tw
           go true d =
               let same : stream ≡ stream_of first.body = eqb-true stream (stream_of (body_in unit)) d ∙ ap stream_of (is_body ∙ sym first_body) in
               let own : is_of stream first ≡ true =
-              rw (
-                ap (λ (b : List ℕ). service_indicator b == 0) first_body
-                    ∙ users,
-                eq-eqb (stream_of first.body) stream (sym same),
-              ) refl in
+              ap (λ (u : Bool). u && (stream_of first.body == stream)) (own_mark ∙ ap not users) ∙ eq-eqb (stream_of first.body) stream (sym same) in
               ap (λ (x : List Message). p.near_past.got stream ++ x ++ here stream p.far mid) got_it
               ∙ append_assoc (p.near_past.got stream) (first ∷ []) (here stream p.far mid)
               ∙ ap (λ (x : List Message). p.near_past.got stream ++ x) (sym (here_loses stream low own))
@@ -465,8 +469,7 @@ module _ {emergencies : Bool} (mx my : Method) (one : IsOneMethod mx my) (p : Tw
               ap (λ (b : List ℕ). stream_of b == stream) (first_body ∙ sym is_body)
               ∙ apart_back stream (stream_of (body_in unit)) d in
               ap (λ (x : List Message). p.near_past.got stream ++ x)
-              (here_stays stream (rw (ap (λ (b : List ℕ). service_indicator b == 0) first_body ∙ users, apart)
-              refl))
+              (here_stays stream (ap (λ (u : Bool). u && (stream_of first.body == stream)) (own_mark ∙ ap not users) ∙ apart))
 
     -- an order, or what the management ignores
     own_got : (service_indicator body == 0) ≡ true → Got
@@ -474,7 +477,7 @@ module _ {emergencies : Bool} (mx my : Method) (one : IsOneMethod mx my) (p : Tw
         none_got (got_by taken.took (slice_get (p.far_past.sent k) (length (p.near_past.taken k))) (body_in unit))
         (rw (e, own) (obeyed_got (slice_get (p.far_past.sent k) (length (p.near_past.taken k))) (body_in unit)
         (order_of p.near.settings.profile body) mid)) stream
-        (here_stays stream (rw (ap (λ (b : List ℕ). service_indicator b == 0) first_body ∙ own) refl))
+        (here_stays stream (ap (λ (u : Bool). u && (stream_of first.body == stream)) (own_mark ∙ ap not own)))
 
     got_some : Got
     got_some = go (service_indicator body == 0) refl
@@ -621,6 +624,7 @@ module _ {emergencies : Bool} (mx my : Method) (one : IsOneMethod mx my) (p : Tw
     near_covers = record {
       managed = covered.managed;
       numbered = covered.numbered;
+      marked = covered.marked;
       known = covered.known;
       gone = λ number q. gone_case number q.0 q.1 (both_then.of q.0 q.1 q.2) q.3;
     };

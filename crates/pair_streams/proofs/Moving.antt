@@ -20,7 +20,7 @@ use Rattle.set_model.proofs.Events.{appended_in, appended_out}
 use Rattle.pair_model.specs.Run.{Message, messages}
 use Rattle.pair_changeover.specs.Pending.{pending, aside, acked_on, accepted_on}
 use Rattle.pair_changeover.proofs.Changes.{Grows, grown, ungrown, IsNew, grows, Placed, joined_in, left_out, placed_among, placed_last, places, places_aside}
-use Rattle.pair_changeover.proofs.Table.{joined, new_message, aside_joins, aside_apart}
+use Rattle.pair_changeover.proofs.Table.{joined, new_message, new_order_message, aside_joins, aside_apart}
 use Rattle.pair_changeover.proofs.Views.{view, Among, In, stands_on, stands_aside}
 use Rattle.pair_streams.specs.Streams.{is_of, those_of}
 use Rattle.pair_streams.proofs.Codes.{Clear, Flows, NewAcknowledges, Kept, carried, owes_same}
@@ -141,7 +141,7 @@ module _ (s t f : State) (body : List ℕ) (fate : Fate) (rows : t.rows ≡ appe
 
 -- or an order, ahead of users' messages
 pub comes_ahead : (order : Order) (s f : State)
-    → Comes (new_message (given s) (text s.settings.profile order s.settings.sio s.settings.dpc s.settings.opc))
+    → Comes (new_order_message (given s) (text s.settings.profile order s.settings.sio s.settings.dpc s.settings.opc))
     (fate_on (target s.links)) s (queued order s) f
 comes_ahead order s f =
     let body = text s.settings.profile order s.settings.sio s.settings.dpc s.settings.opc in
@@ -152,7 +152,7 @@ comes_ahead order s f =
     }
   where
     never_back : (c : ℕ) (to : Option ℕ)
-        → Placed (new_message (given s) (text s.settings.profile order s.settings.sio s.settings.dpc s.settings.opc)) (is_back c (fate_on to))
+        → Placed (new_order_message (given s) (text s.settings.profile order s.settings.sio s.settings.dpc s.settings.opc)) (is_back c (fate_on to))
         (back_by c s) (messages (standing (is_back c) (put_ahead (given s) s.rows
         (text s.settings.profile order s.settings.sio s.settings.dpc s.settings.opc) (fate_on to))))
     never_back c None = left_out refl (ap messages (put_apart (given s) s.rows _ Parked (is_back c) refl))

@@ -31,7 +31,7 @@ use Rattle.pair_changeover.proofs.Views.{view, In}
 use Rattle.pair_streams.specs.Streams.{is_of}
 use Rattle.pair_streams.proofs.Codes.{Clear, Flows, IsNumber, Kept, NewAcknowledges, Owes, kept_flow}
 use Rattle.pair_streams.proofs.Declared.{Declares, Acknowledges, NoneDeclares, ClearBehind, clear_joined, cbd_other, cbd_acknowledges}
-use Rattle.pair_streams.proofs.Flows.{no_stream}
+use Rattle.pair_streams.proofs.Flows.{no_stream_by}
 use Rattle.pair_streams.proofs.Moving.{Comes, comes_last, those_stay, grows_on, grows_aside, in_new, queue_stays, stands_stays, apart_kept}
 
 module _ (code via : ℕ) (s f : State) (sound : IsSound s) (due : overdue_via (code_of code s.routing) s.rows ≡ Some via) where
@@ -72,7 +72,7 @@ module _ (code via : ℕ) (s f : State) (sound : IsSound s) (due : overdue_via (
       go false = refl
 
   of_none : (stream : ℕ) → is_of stream z ≡ false
-  of_none stream = no_stream stream s.settings.sio (given s)
+  of_none stream = no_stream_by stream s.settings.sio (given s)
       (label s.settings.dpc s.settings.opc (home_of code)
       ++ heading_of (Cbd (home_of code) code) ∷ content_with s.settings.profile 0 (Cbd (home_of code) code)) sound.managed
 

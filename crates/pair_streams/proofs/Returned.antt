@@ -84,10 +84,10 @@ module _ (code : ℕ) (s f : State) (sound : IsSound s) where
 
     users_added : (l : ℕ) (m : Message) → Among m (adds l) → order_any m.body ≡ None
     users_added l m a = gained_users (is_back code) (all_with (Waiting to_home)) (code_back code) s.rows
-        (unsent_home code s f sound) s.routing sound.backs l m a
+        (unsent_home code s f sound) s.routing sound.marked sound.backs l m a
 
     users_parked : (m : Message) → Among m (messages (parked rows_turned)) → order_any m.body ≡ None
-    users_parked m a = turned_users (is_back code) (all_with (Waiting to_home)) (code_back code) s.routing is_parked s.rows sound.backs m a
+    users_parked m a = turned_users (is_back code) (all_with (Waiting to_home)) (code_back code) s.routing is_parked s.rows sound.marked sound.backs m a
 
   -- where it isn't, nothing changes
   rows_same : is_open to_home s ≡ false → gone.rows ≡ s.rows

@@ -6,10 +6,10 @@
 -- got (`arrives_so`, `arrives_in_part`). Counting.antt, Telling.antt, Handing.antt and Arrived.antt use it.
 use Rattle.set_model.proofs.Places.{code_back}
 use Rattle.set_route.proofs.Quiet.{never_changing}
-use Rattle.pair_streams.proofs.Filtered.{among_all, none_both, none_within}
-use Rattle.std.proofs.Common.{refl, arith, ◌≡◌, ◌∙◌, ap, sym, subst, ℕ, zero, suc, ◌<◌, ◌==◌, ◌+◌, ◌-◌, Bool, true, false, not, ◌&&◌, ◌||◌, nat_lt, List, [], ◌∷◌, ◌++◌, length, take, drop, slice_get, Some, None, cond, ◌⊎◌, inl, inr}
+use Rattle.pair_streams.proofs.Filtered.{among_all, both_true, none_both, none_within}
+use Rattle.std.proofs.Common.{refl, arith, ◌≡◌, ◌∙◌, ap, sym, subst, ℕ, zero, suc, ◌<◌, ◌==◌, ◌+◌, ◌-◌, Bool, true, false, not, ◌||◌, nat_lt, List, [], ◌∷◌, ◌++◌, length, take, drop, slice_get, Some, None, cond, ◌⊎◌, inl, inr}
 use Rattle.std.specs.Option.{option_map}
-use Rattle.std.proofs.lemmas.Bool.{ltb-true, eqb-true}
+use Rattle.std.proofs.lemmas.Bool.{ltb-true, eqb-true, not-true}
 use Rattle.std.proofs.lemmas.List.{append-nil}
 use Rattle.l2_units.specs.declared.unit.Unit.{Unit as SignalUnit}
 use Rattle.pair_steps.specs.Lines.{units_on, without}
@@ -24,7 +24,7 @@ use Rattle.set_route.specs.declared.place.Place.{Place}
 use Rattle.set_route.specs.declared.place.Place.TheVariants.{On, Changing, Nowhere}
 use Rattle.set_route.specs.Routing.{place_of}
 use Rattle.set_model.specs.declared.phase.Phase.TheVariants.{Up}
-use Rattle.set_model.specs.Rows.{Row, is_unacked, is_waiting, is_held, is_parked, standing, unack, wait, held, parked, place, body_at, row_of, service_indicator, stream_of, is_back, stands_back}
+use Rattle.set_model.specs.Rows.{Row, is_unacked, is_waiting, is_held, is_parked, standing, unack, wait, held, parked, place, body_at, owner_at, row_of, is_managements, stream_of, is_back, stands_back}
 use Rattle.set_model.specs.State.{given, LinkState, State, Settings, is_up, is_settled, link_count, opened_with, settings_of}
 use Rattle.set_model.specs.Step.{Outcome as SetOutcome, step}
 use Rattle.set_model.proofs.Rows.{row_in_filter}
@@ -36,7 +36,7 @@ use Rattle.pair_steps.specs.declared.step.Shown.TheVariants.{Answered, Up as Cam
 use Rattle.pair_steps.specs.declared.step.Step.{Step}
 use Rattle.pair_steps.specs.declared.step.Step.TheVariants.{Act, Emit, Arrive, Lose, Together, Inject}
 use Rattle.pair_model.specs.World.{Outcome, shows, impossible, exhausted, at_end, with_end, line_to, with_line, actor_of, answer_to, after, is_full, has_link, has_actor, acts, with_sent, sends_on, emits, front_arrives, arrives, loses, risen, is_settled_at_both, rises, has_own_step, done_by, carried_out}
-use Rattle.pair_model.specs.Run.{Message, messages, Past, Stage, begun, no_past, with_past, past_arrived, passed, OnShows, HoldsAlong}
+use Rattle.pair_model.specs.Run.{Message, message_by, messages, Past, Stage, begun, no_past, with_past, past_arrived, passed, OnShows, HoldsAlong}
 use Rattle.pair_model.specs.Promises.{IsOneMethod, IsHonestStep, AreSteps, IsSoundRun, IsQuietRun}
 use Rattle.pair_model.proofs.Controls.{one_back}
 use Rattle.pair_model.proofs.Kept.{at_first, settings_sound}
@@ -53,7 +53,7 @@ use Rattle.pair_streams.proofs.Acting.{IsSafe, Streams, streams_back, asked_stre
 use Rattle.pair_streams.proofs.Codes.{Flows}
 use Rattle.pair_streams.proofs.Flowing.{queue_at, here, back_by}
 use Rattle.pair_streams.proofs.Hearing.{hears_streams}
-use Rattle.pair_streams.proofs.Known.{given_up}
+use Rattle.pair_streams.proofs.Known.{given_up, owner_marked}
 use Rattle.pair_streams.proofs.Rising.{Rising, rise_part}
 use Rattle.pair_streams.proofs.Mixed.{Mixed, mixed_none, mixed_among, mixed_part, part_first}
 
@@ -121,15 +121,14 @@ module _ (stream : ℕ) (low : stream < 16) (s f : State) (near far : Past) (los
         go (inr b) = let r = row_among m (standing (is_back code) s.rows) b in acked_in (is_back code) refl r.place r.row r.there r.number_is
     not_here Nowhere a = not_aside a
 
-    both_parts : (a b : Bool) → (not a && b) ≡ true → (a ≡ false) × (b ≡ true)
-    both_parts false true e = (refl, refl)
-    both_parts false false e = absurd cc
-    both_parts true b e = absurd cc
-
-    acked_got : is_of stream m ≡ true → body_at m.number s.rows ≡ Some m.body → IsIn m (far.got stream)
-    acked_got own body =
-        let parts = both_parts (service_indicator m.body == 0) (stream_of m.body == stream) own in
-        let offered = subst (λ (n : ℕ). Among m (near.offered n)) (eqb-true (stream_of m.body) stream parts.1) (covers.known m.number m.body body parts.0) in
+    acked_got : is_of stream m ≡ true → body_at m.number s.rows ≡ Some m.body → owner_at m.number s.rows ≡ Some m.users → IsIn m (far.got stream)
+    acked_got own body owner =
+        let parts = both_true m.users (stream_of m.body == stream) own in
+        let mark = owner_marked m.number s.rows m.body m.users covers.marked body owner in
+        let plain : is_managements m.body ≡ false = not-true (is_managements m.body) (sym mark ∙ parts.0) in
+        let same : m ≡ message_by m.number m.body = ap (λ (u : Bool). record { number = m.number; body = m.body; users = u }) mark in
+        let by = subst (λ (n : ℕ). Among (message_by m.number m.body) (near.offered n)) (eqb-true (stream_of m.body) stream parts.1) (covers.known m.number m.body body plain) in
+        let offered = subst (λ (x : Message). Among x (near.offered stream)) (sym same) by in
         go (mixed_among m (far.got stream ++ here stream s f) (lost stream) (near.offered stream) (w.flow stream low) offered)
       where
         kept : Among m (far.got stream) ⊎ Among m (here stream s f) → IsIn m (far.got stream)
@@ -164,7 +163,7 @@ module _ (stream : ℕ) (low : stream < 16) (s f : State) (near far : Past) (los
   arrives_so whole = record {
     prefix = first_part (far.got stream) (here stream s f) (near.offered stream) all_of;
     once = once_each;
-    acked = λ link m own placed body. acked_got link m placed own body;
+    acked = λ link m own placed body owner. acked_got link m placed own body owner;
     all = λ none none_aside none_back. sym (append-nil (far.got stream))
         ∙ ap (λ (x : List Message). far.got stream ++ x)
         (sym (empty (place_of stream s.routing) none none_aside none_back)) ∙ all_of;
@@ -180,7 +179,7 @@ module _ (stream : ℕ) (low : stream < 16) (s f : State) (near far : Past) (los
   arrives_in_part = record {
     in_order = part_of;
     once = once_each;
-    acked = λ link m own placed body. acked_got link m placed own body;
+    acked = λ link m own placed body owner. acked_got link m placed own body owner;
     all = λ none none_aside none_back m offered. got_or_lost (empty (place_of stream s.routing) none none_aside none_back) m offered;
   }
     where
@@ -489,6 +488,7 @@ first_covers : (config : SetConfig) → Covered no_past (λ stream. []) (opened_
 first_covers config = record {
   managed = config.management;
   numbered = (opened_sound (settings_of config) (settings_sound config)).numbered;
+  marked = tt;
   known = λ number body e users. absurd (let no : None ≡ Some body = e in cc);
   gone = λ number q. absurd q.2;
 }

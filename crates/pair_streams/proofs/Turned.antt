@@ -105,13 +105,13 @@ module _ (blind : Bool) (k : ℕ) (link : LinkState) (s f : State) (sound : IsSo
     place_then = (route.alone s.routing stream sound.routing low).left_place k
 
     -- a row of the stream that stands back is one of its code
-    own_row : (row : Row) (c : ℕ) → is_of stream (record { number = row.number; body = row.body }) ≡ true
+    own_row : (row : Row) (c : ℕ) → is_of stream (record { number = row.number; body = row.body; users = row.users }) ≡ true
         → (b : IsBackOf s.routing row (Back c)) → place ≡ Changing (home_of c) c b.2
-    own_row row c own b = ap (λ (n : ℕ). place_of n s.routing) (sym (of_stream stream (record { number = row.number; body = row.body }) own)) ∙ b.3
+    own_row row c own b = ap (λ (n : ℕ). place_of n s.routing) (sym (of_stream stream (record { number = row.number; body = row.body; users = row.users }) own)) ∙ b.3
 
-    goes_place : (row : Row) → is_of stream (record { number = row.number; body = row.body }) ≡ true → goes row ≡ fate_at (place_left k place) out
+    goes_place : (row : Row) → is_of stream (record { number = row.number; body = row.body; users = row.users }) ≡ true → goes row ≡ fate_at (place_left k place) out
     goes_place row own =
-        ap (λ (n : ℕ). fate_at (place_of n out.routing) out) (of_stream stream (record { number = row.number; body = row.body }) own)
+        ap (λ (n : ℕ). fate_at (place_of n out.routing) out) (of_stream stream (record { number = row.number; body = row.body; users = row.users }) own)
         ∙ ap (λ (p : Place). fate_at p out) place_then
 
     module _ (other : Fate → Bool) where
@@ -119,7 +119,7 @@ module _ (blind : Bool) (k : ℕ) (link : LinkState) (s f : State) (sound : IsSo
       P row = is_back_to k row.fate && other (goes row)
 
       off_row : turns place k ≡ false → (row : Row) (fate : Fate) → IsBackOf s.routing row fate
-          → is_of stream (record { number = row.number; body = row.body }) ≡ true
+          → is_of stream (record { number = row.number; body = row.body; users = row.users }) ≡ true
           → (is_back_to k fate && other (goes row)) ≡ false
       off_row off row (Back c) b own =
           let home_off : (home_of c == k) ≡ false = ap (λ (p : Place). turns p k) (sym (own_row row c own b)) ∙ off in
@@ -137,7 +137,7 @@ module _ (blind : Bool) (k : ℕ) (link : LinkState) (s f : State) (sound : IsSo
           ap (those_of stream) (turned_filter (is_back_to k) other goes s.rows)
           ∙ picked stream P (λ row. false) s.rows
           (each_so (λ row. IsBackOf s.routing row row.fate)
-          (λ row. is_of stream (record { number = row.number; body = row.body }) ≡ true → P row ≡ false)
+          (λ row. is_of stream (record { number = row.number; body = row.body; users = row.users }) ≡ true → P row ≡ false)
           (λ row b own. off_row off row row.fate b own) s.rows sound.backs)
           ∙ ap (those_of stream) (never_picked s.rows)
 
@@ -147,7 +147,7 @@ module _ (blind : Bool) (k : ℕ) (link : LinkState) (s f : State) (sound : IsSo
         left_place = ap (place_left k) is ∙ rw on refl
 
         on_row : (b : Bool) → other (fate_at (On via) out) ≡ b → (row : Row) (fate : Fate) → IsBackOf s.routing row fate
-            → is_of stream (record { number = row.number; body = row.body }) ≡ true
+            → is_of stream (record { number = row.number; body = row.body; users = row.users }) ≡ true
             → (is_back_to k fate && other (goes row)) ≡ (is_back code fate && b)
         on_row b e row (Back c) back own =
             let same : Changing (home_of c) c back.2 ≡ Changing to code via = sym (own_row row c own back) ∙ is in
@@ -170,7 +170,7 @@ module _ (blind : Bool) (k : ℕ) (link : LinkState) (s f : State) (sound : IsSo
             ap (those_of stream) (turned_filter (is_back_to k) other goes s.rows)
             ∙ picked stream P (λ row. is_back code row.fate && b) s.rows
             (each_so (λ row. IsBackOf s.routing row row.fate)
-            (λ row. is_of stream (record { number = row.number; body = row.body }) ≡ true
+            (λ row. is_of stream (record { number = row.number; body = row.body; users = row.users }) ≡ true
             → P row ≡ (is_back code row.fate && b)) (λ row back own. on_row b e row row.fate back own) s.rows
             sound.backs)
             ∙ and_so stream (is_back code) b s.rows
@@ -243,10 +243,10 @@ module _ (blind : Bool) (k : ℕ) (link : LinkState) (s f : State) (sound : IsSo
         not_both (Discarded cause) e h = refl
 
   users_added : (l : ℕ) (m : Message) → Among m (adds l) → order_any m.body ≡ None
-  users_added l m a = gained_users (is_back_to k) goes (home_back k) s.rows (unsent blind k link s f sound at) s.routing sound.backs l m a
+  users_added l m a = gained_users (is_back_to k) goes (home_back k) s.rows (unsent blind k link s f sound at) s.routing sound.marked sound.backs l m a
 
   users_parked : (m : Message) → Among m (messages (parked rows_turned)) → order_any m.body ≡ None
-  users_parked m a = turned_users (is_back_to k) goes (home_back k) s.routing is_parked s.rows sound.backs m a
+  users_parked m a = turned_users (is_back_to k) goes (home_back k) s.routing is_parked s.rows sound.marked sound.backs m a
 
   -- no order comes to stand there
   pub left_orders : (order : Order) (m : Message) → In m (view left f) → order_any m.body ≡ Some order → In m (view s f)

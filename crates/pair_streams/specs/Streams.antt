@@ -3,7 +3,7 @@ use Rattle.std.specs.Prelude.{◌≡◌, ◌<◌, ◌≤◌, ℕ, ◌+◌, ◌==
 use Rattle.set_events.specs.declared.answer.Fate.TheVariants.{Acked, Discarded}
 use Rattle.set_events.specs.declared.answer.DiscardCause.TheVariants.{Emergency}
 use Rattle.set_events.specs.declared.config.SetConfig.{SetConfig}
-use Rattle.set_model.specs.Rows.{stream_of, service_indicator, place, body_at}
+use Rattle.set_model.specs.Rows.{stream_of, place, body_at, owner_at}
 use Rattle.set_model.specs.State.{LinkState, State}
 use Rattle.pair_steps.specs.declared.step.Step.{Step}
 use Rattle.pair_model.specs.Promises.{IsSoundRun, IsQuietRun}
@@ -13,7 +13,7 @@ use Rattle.pair_changeover.specs.Pending.{pending, aside, kept_back}
 
 -- a user's message of the stream, and all such in a list
 abbrev pub is_of : ℕ → Message → Bool
-is_of stream message = not (service_indicator message.body == 0) && (stream_of message.body == stream)
+is_of stream message = message.users && (stream_of message.body == stream)
 
 abbrev pub those_of : ℕ → List Message → List Message
 those_of stream messages = filter (is_of stream) messages
@@ -41,7 +41,7 @@ pub record Arrives (stream : ℕ) (near far : Past) (s f : State) : Type 0 where
   -- each message that is acknowledged here is among it
   pub acked : (link : ℕ) (message : Message) → is_of stream message ≡ true
       → place message.number s.rows ≡ Some (Acked link) → body_at message.number s.rows ≡ Some message.body
-      → IsIn message (far.got stream)
+      → owner_at message.number s.rows ≡ Some message.users → IsIn message (far.got stream)
   -- and where nothing of the stream is pending, parked or waits for a changeback, it's all
   pub all : ((link : ℕ) → those_of stream (pending link s f) ≡ []) → those_of stream (aside s) ≡ []
       → those_of stream (kept_back s) ≡ [] → far.got stream ≡ near.offered stream
@@ -61,7 +61,7 @@ pub record ArrivesInPart (stream : ℕ) (near far : Past) (s f : State) : Type 0
   -- each message that is acknowledged here is among it
   pub acked : (link : ℕ) (message : Message) → is_of stream message ≡ true
       → place message.number s.rows ≡ Some (Acked link) → body_at message.number s.rows ≡ Some message.body
-      → IsIn message (far.got stream)
+      → owner_at message.number s.rows ≡ Some message.users → IsIn message (far.got stream)
   -- and where nothing of the stream is pending, parked or waits for a changeback, each that isn't was discarded in an
   -- emergency
   pub all : ((link : ℕ) → those_of stream (pending link s f) ≡ []) → those_of stream (aside s) ≡ []

@@ -6,15 +6,16 @@
 -- lets the queues follow.
 use Rattle.std.proofs.Common.{append_assoc, slice_get, arith, refl, ap, sym, ◌∙◌, Option, ◌≡◌, ◌≤◌, ◌<◌, [], ◌∷◌, length, ℕ, zero, suc, Bool, true, false, List, ◌++◌, Some, None, take, drop, cond, not, ◌&&◌, ◌==◌, filter, option_map}
 use Rattle.std.specs.List.{drop-map}
+use Rattle.std.proofs.lemmas.Option.{same_Some}
 use Rattle.std.proofs.lemmas.Bool.Decides.{nat_tests}
 use Rattle.std.proofs.lemmas.Bool.{eq-eqb}
 use Rattle.std.proofs.lemmas.List.{map-append, append-nil, length-append}
 use Rattle.set_queues.specs.Buffers.{is_standing, same_fate}
-use Rattle.set_model.specs.Rows.{Fate, Row, standing, numbers, is_users, turned, picked_changed, moved, all_with, appended, put_ahead, IsNumbered, AreBefore, Each, row_of, place, body_at}
+use Rattle.set_model.specs.Rows.{Fate, Row, standing, numbers, is_users, turned, picked_changed, moved, all_with, appended, put_ahead, IsNumbered, AreBefore, Each, row_of, place}
 use Rattle.set_model.specs.Laws.{SameMessages}
 use Rattle.set_model.proofs.Events.{numbers_joined, appended_in, appended_out}
 use Rattle.set_model.proofs.Ahead.{put_apart}
-use Rattle.set_model.proofs.Rows.{new_row, picked_there, same_numbers, turned_same, turned_left, moved_same, moved_gone, moved_joined, fewer_filter, filter_within, filter_apart, with_number, at_most_one, row_is_first, place_moved, not_found}
+use Rattle.set_model.proofs.Rows.{new_order, picked_there, same_numbers, turned_same, turned_left, moved_same, moved_gone, moved_joined, fewer_filter, filter_within, filter_apart, with_number, at_most_one, row_is_first, place_moved, not_found}
 use Rattle.set_model.proofs.Staying.{messages_stay}
 use Rattle.std.specs.Prelude.{IsSome}
 use Rattle.set_queues.specs.Slots.{slot_at}
@@ -68,13 +69,22 @@ module _ (test : Fate → Bool) (to : Fate) where
 pub none_at : (given n : ℕ) (rows : List Row) → IsNumbered given rows → given ≤ n → row_of n rows ≡ None
 none_at given n rows numbered far = not_found given n rows numbered far
 
-given_one : (slot : Option Message) (row : Option Row) (to : Fate) → option_map (λ (r : Row). r.fate) row ≡ Some to → option_map label_in slot ≡ option_map label_of (option_map (λ (r : Row). r.body) row) → IsSome slot
+given_one : (slot : Option Message) (row : Option Row) (to : Fate) → option_map (λ (r : Row). r.fate) row ≡ Some to → option_map label_in slot ≡ option_map label_of row → IsSome slot
 given_one slot None to there label = absurd cc
 given_one None (Some row) to there label = absurd cc
 given_one (Some m) (Some row) to there label = refl
 
-pub given_all : (ns : List ℕ) (to : Fate) (ms : List (Option Message)) (rows new : List Row) → ((n : ℕ) → option_map label_in (slot_at n ms) ≡ option_map label_of (body_at n rows)) → ((n : ℕ) → body_at n new ≡ body_at n rows) → ((n : ℕ) → GoesTo ns to n rows new) → AreGiven ns ms
-given_all ns to ms rows new labels bodies goes n h = given_one (slot_at n ms) (row_of n new) to ((goes n).goes h) (labels n ∙ ap (option_map label_of) (sym (bodies n)))
+pub labels_same : {given : ℕ} (rows new : List Row) → SameMessages given rows new → (n : ℕ) → option_map label_of (row_of n new) ≡ option_map label_of (row_of n rows)
+labels_same rows new same n = go (row_of n rows) (row_of n new) (same.bodies n) (same.owners n)
+  where
+    go : (old now : Option Row) → option_map (λ (r : Row). r.body) now ≡ option_map (λ (r : Row). r.body) old → option_map is_users now ≡ option_map is_users old → option_map label_of now ≡ option_map label_of old
+    go None None b u = refl
+    go None (Some now) b u = absurd cc
+    go (Some old) None b u = absurd cc
+    go (Some old) (Some now) b u = rw (same_Some _ _ b, same_Some _ _ u) refl
+
+pub given_all : {given : ℕ} (ns : List ℕ) (to : Fate) (ms : List (Option Message)) (rows new : List Row) → ((n : ℕ) → option_map label_in (slot_at n ms) ≡ option_map label_of (row_of n rows)) → SameMessages given rows new → ((n : ℕ) → GoesTo ns to n rows new) → AreGiven ns ms
+given_all ns to ms rows new labels same goes n h = given_one (slot_at n ms) (row_of n new) to ((goes n).goes h) (labels n ∙ sym (labels_same rows new same n))
 
 -- Each row is found under its number, and so are those that a test picks.
 first_here : (xs ys : List Row) (x : Row) → length (xs ++ x ∷ ys) ≤ 1 → slice_get (xs ++ x ∷ ys) 0 ≡ Some x
@@ -137,7 +147,7 @@ module _ (ms : List (Option Message)) (number : ℕ) (body : List ℕ) (fate : F
       go true e there = rw (← same_is fate f s e) there
       go false e there = ap numbers (put_apart number rows body fate (is_there f) e)
 
-  pub row_ahead : (n : ℕ) (rows : List Row) → row_of number rows ≡ None → row_of n (put_ahead number rows body fate) ≡ cond (number == n) (Some (new_row number body fate)) (row_of n rows)
+  pub row_ahead : (n : ℕ) (rows : List Row) → row_of number rows ≡ None → row_of n (put_ahead number rows body fate) ≡ cond (number == n) (Some (new_order number body fate)) (row_of n rows)
   row_ahead n [] none = grind arith
   row_ahead n (x ∷ rows) none = grind (arith, nat_tests, row_ahead n rows)
 
@@ -188,6 +198,7 @@ module _ (picks stays : Row → Bool) (parts : (x : Row) → stays x ≡ not (pi
         messages = record {
           count = place.count;
           bodies = place.bodies;
+          owners = place.owners;
           numbered = same_numbers given rows (picked_changed picks (is_there from) to rows) (λ number. place.as_many (λ row. row.number == number) (λ f x. refl)) numbered;
         };
         goes = λ k. goes_picked (is_there from) to picks k rows (at_most_one given k rows numbered);

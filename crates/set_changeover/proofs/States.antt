@@ -14,6 +14,7 @@ use Rattle.l2_window.proofs.Numbers.{acked_is, from_zero}
 use Rattle.set_queues.specs.Buffers.{profile_at, Lists, is_standing, same_fate, queue_at, with_queue, IsKnown, LinkLists, last_at, with_last}
 use Rattle.set_queues.specs.Messages.{restood, fate_at, is_order, is_order_at}
 use Rattle.set_queues.specs.Slots.{slot_at}
+use Rattle.set_queues.specs.declared.message.Kind.TheVariants.{Order}
 use Rattle.set_queues.specs.Sending.{acknowledged as acked_lists, reach}
 use Rattle.set_queues.specs.Queues.{occurs, passed, passed_first, without, orders_in, others_in, behind_orders}
 use Rattle.set_queues.specs.Settling.{on as on_lists, settled}
@@ -26,8 +27,8 @@ use Rattle.set_model.proofs.Ahead.{numbered_put, put_length}
 use Rattle.set_model.proofs.Rows.{at_most_one, each_so, fewer_filter, place_moved, new_row, numbered_appended}
 use Rattle.set_model.proofs.Order.{on_in_order}
 use Rattle.set_model.proofs.Staying.{messages_stay}
-use Rattle.set_changeover.specs.Agreement.{Message, Stands, is_there, rows_at, label_in, label_of, kind_of, Kept, StandsFor}
-use Rattle.set_changeover.proofs.RowsAt.{given_all, none_at, row_ahead, Shifts, appended_at, ahead_at, AreTold, parted, parted_at, turned_shifts, moved_shifts, orders, picked_shift, one_there, numbers_without, all_found}
+use Rattle.set_changeover.specs.Agreement.{Message, Stands, is_there, rows_at, label_in, label_of, kind_by, Kept, StandsFor}
+use Rattle.set_changeover.proofs.RowsAt.{given_all, labels_same, none_at, row_ahead, Shifts, appended_at, ahead_at, AreTold, parted, parted_at, turned_shifts, moved_shifts, orders, picked_shift, one_there, numbers_without, all_found}
 use Rattle.set_route.specs.Routing.{Routing}
 use Rattle.set_model.specs.State.{LinkState, State, given}
 use Rattle.set_model.proofs.Lists.{at_set, length_set, within, present, get_set_same}
@@ -43,9 +44,10 @@ pub record Moves (q : Lists) (ms : List (Option Message)) (rows new : List Row) 
 pub shifts_stand : {q q' : Lists} {ms : List (Option Message)} {rows new : List Row} {test : Fate → Bool} {to : Fate} {ns xs left : List ℕ} → Stands q ms rows → Shifts (length ms) test to ns left rows new
     → ((f : Fate) → is_standing f ≡ true → queue_at f q' ≡ cond (test f) left (cond (same_fate to f) (queue_at f q ++ ns) (queue_at f q))) → xs ≡ ns → Moves q' (restood xs to ms) rows new
 shifts_stand {q} {q'} {ms} {rows} {new} {test} {to} {ns} s shifts queues e =
-    let given = given_all ns to ms rows new s.labels shifts.messages.bodies shifts.goes in
+    let given = given_all ns to ms rows new s.labels shifts.messages shifts.goes in
+    let labels = labels_same rows new shifts.messages in
     let fates : (n : ℕ) → fate_at n (restood ns to ms) ≡ place n new = λ n. let goes = shifts.goes n in grind (arith, cases_lt 0 (occurs n ns), given n, goes.stays, goes.goes, fate_stays n ns to ms, fate_moves n ns to ms, s.fates n) in
-    rw e (grind (arith, s, shifts, queues, restood_at, length-restood, fates))
+    rw e (grind (arith, s, shifts, queues, restood_at, length-restood, fates, labels))
 
 -- A NEW MESSAGE
 -- its number is the first that no row had
@@ -61,7 +63,7 @@ last_set l fsn q n h = let x = present q.links l h in grind (arith, nat_tests, c
 
 -- A NEW MESSAGE.
 pub appended_for : (k : Kept) (s : State) (body : List ℕ) (fate : Fate) → StandsFor k s → is_standing fate ≡ true → IsKnown fate k.lists
-    → StandsFor (record k { lists = with_queue fate (queue_at fate k.lists ++ length k.messages ∷ []) k.lists; messages = k.messages ++ Some (record { fate = fate; kind = kind_of body; octets = length body }) ∷ []; bodies = k.bodies ++ Some body ∷ [] }) (record s { rows = appended (given s) s.rows body fate })
+    → StandsFor (record k { lists = with_queue fate (queue_at fate k.lists ++ length k.messages ∷ []) k.lists; messages = k.messages ++ Some (record { fate = fate; kind = kind_by body; octets = length body }) ∷ []; bodies = k.bodies ++ Some body ∷ [] }) (record s { rows = appended (given s) s.rows body fate })
 appended_for k s body fate f standing known =
     let pushed = λ (n : ℕ). row_push (length k.messages) n s.rows body fate f.stands.numbered in
     let more = numbered_appended (length k.messages) s.rows body fate f.stands.numbered in
@@ -69,19 +71,19 @@ appended_for k s body fate f standing known =
     grind (arith, nat_tests, length-append, same_is, queue_set, appended_at, slot_push, pushed, more, out, links_stay, last_stays, profile_queue)
 
 -- AN ORDER is known by its label.
-label_is : (slot : Option Message) (row : Row) → option_map label_in slot ≡ Some (label_of row.body) → is_order slot ≡ not (is_users row)
+label_is : (slot : Option Message) (row : Row) → option_map label_in slot ≡ Some (label_of row) → is_order slot ≡ not (is_users row)
 label_is None row e = absurd cc
 label_is (Some m) row e = grind arith
 
 order_is : (k : Kept) (s : State) → StandsFor k s → (row : Row) → row_of row.number s.rows ≡ Some row → is_order_at k.messages row.number ≡ not (is_users row)
-order_is k s f row found = label_is (slot_at row.number k.messages) row (f.stands.labels row.number ∙ ap (λ (r : Option Row). option_map label_of (option_map (λ (x : Row). x.body) r)) found)
+order_is k s f row found = label_is (slot_at row.number k.messages) row (f.stands.labels row.number ∙ ap (option_map label_of) found)
 
 told_at : (k : Kept) (s : State) (from : Fate) → StandsFor k s → AreTold k.messages (rows_at from s.rows)
 told_at k s from f = each_so _ _ (order_is k s f) (rows_at from s.rows) (all_found (is_there from) (length k.messages) s.rows f.stands.numbered)
 
 -- A NEW MESSAGE ahead of the first user's in its place.
 pub ahead_for : (k : Kept) (s : State) (body : List ℕ) (fate : Fate) → StandsFor k s → is_standing fate ≡ true → IsKnown fate k.lists
-    → StandsFor (record k { lists = with_queue fate (behind_orders k.messages (length k.messages) (queue_at fate k.lists)) k.lists; messages = k.messages ++ Some (record { fate = fate; kind = kind_of body; octets = length body }) ∷ []; bodies = k.bodies ++ Some body ∷ [] }) (record s { rows = put_ahead (given s) s.rows body fate })
+    → StandsFor (record k { lists = with_queue fate (behind_orders k.messages (length k.messages) (queue_at fate k.lists)) k.lists; messages = k.messages ++ Some (record { fate = fate; kind = Order; octets = length body }) ∷ []; bodies = k.bodies ++ Some body ∷ [] }) (record s { rows = put_ahead (given s) s.rows body fate })
 ahead_for k s body fate f standing known =
     let pushed = λ (n : ℕ). row_ahead k.messages (length k.messages) body fate standing n s.rows (none_at (length k.messages) (length k.messages) s.rows f.stands.numbered (omega arith)) in
     let more = numbered_put (length k.messages) s.rows body fate f.stands.numbered in
@@ -111,7 +113,7 @@ parted_for k s test f =
       stands = record {
         queues = λ g t. f.stands.queues g t ∙ ap numbers (sym (parted_at test g s.rows t (test g) refl));
         fates = λ n. f.stands.fates n ∙ grind (arith, places n);
-        labels = λ n. f.stands.labels n ∙ ap (option_map label_of) (sym (stay.bodies n));
+        labels = λ n. f.stands.labels n ∙ sym (labels_same s.rows (parted test s.rows) stay n);
         numbered = stay.numbered;
       };
       same = stay;

@@ -4,8 +4,8 @@
 -- the state; `starts`, `turned_first` and `all_turned` are its beginning, its step and its end. `Turning` adds the room
 -- (`turns_one`). Inductions are on rows (`first_above`, `turned_one`) and codes (`back_less`). The function turn_back
 -- (src/turning.rt) uses it, and leave (src/changeover.rt) `turning_of`.
-use Rattle.std.proofs.Common.{length-take, nat_lt, inl, inr, refl, arith, ◌≡◌, ◌∙◌, ap, sym, subst, [], ◌∷◌, ◌++◌, length, ℕ, suc, Bool, true, false, List, Some, cond, take, drop, ◌+◌, ◌*◌, None, ◌≤◌, ◌<◌, zero, ◌==◌, ◌⊎◌, Option, slice_get, filter, map, not, option_map}
-use Rattle.std.proofs.lemmas.Bool.{eq-eqb, cases_eq, cases_lt, ne_eqb, not-true}
+use Rattle.std.proofs.Common.{length-take, nat_lt, inl, inr, refl, arith, ◌≡◌, ◌∙◌, ap, sym, subst, [], ◌∷◌, ◌++◌, length, ℕ, suc, Bool, true, false, List, Some, cond, take, drop, ◌+◌, ◌*◌, None, ◌≤◌, ◌<◌, zero, ◌⊎◌, Option, slice_get, filter, map, not, option_map}
+use Rattle.std.proofs.lemmas.Bool.{eq-eqb, cases_eq, cases_lt, ne_eqb}
 use Rattle.std.proofs.lemmas.Bool.Decides.{nat_tests}
 use Rattle.std.proofs.lemmas.List.Elements.{filter-append}
 use Rattle.std.proofs.lemmas.List.{append_assoc, length-append, get_or_past}
@@ -14,7 +14,7 @@ use Rattle.set_queues.specs.Buffers.{Lists, is_standing, same_fate, queue_at, Ha
 use Rattle.set_queues.specs.Messages.{restood, slot_at}
 use Rattle.set_queues.proofs.Standing.{same_is}
 use Rattle.set_route.specs.Routing.{home_of, place_of}
-use Rattle.set_model.specs.Rows.{turned, with_fate, fated, AreBefore, Fate, Waiting, Held, Back, Unacked, Row, standing, is_back, is_back_to, numbers, stream_of, service_indicator, Each, stands_back, is_users, back}
+use Rattle.set_model.specs.Rows.{turned, with_fate, fated, AreBefore, Fate, Waiting, Held, Back, Unacked, Row, standing, is_back, is_back_to, numbers, stream_of, Each, stands_back, is_users, back}
 use Rattle.set_model.specs.Sound.{IsSound, IsAscending, AreAbove, IsBackOf}
 use Rattle.set_model.specs.State.{On, State, fate_at, LinkState}
 use Rattle.set_model.specs.Changeover.{turned_back, out_of_service}
@@ -57,9 +57,9 @@ abbrev pub IsOnLink : ℕ → Fate → Type 0
 IsOnLink links to = (via : ℕ) × (via < links) × ((to ≡ Waiting via) ⊎ (to ≡ Held via))
 
 -- THE KIND that is kept of a user's message
-users_label : (body : List ℕ) (o : Option Message) → option_map label_in o ≡ Some (label_of body) → (service_indicator body == 0) ≡ false → (m : Message) × (o ≡ Some m) × (m.kind ≡ User (stream_of body))
-users_label body None e users = absurd cc
-users_label body (Some m) e users = (m, refl, ap (λ l. l.kind) (same_Some (label_in m) (label_of body) e) ∙ rw users refl)
+users_label : (row : Row) (o : Option Message) → option_map label_in o ≡ Some (label_of row) → is_users row ≡ true → (m : Message) × (o ≡ Some m) × (m.kind ≡ User (stream_of row.body))
+users_label row None e users = absurd cc
+users_label row (Some m) e users = (m, refl, ap (λ l. l.kind) (same_Some (label_in m) (label_of row) e) ∙ rw users refl)
 
 -- WHAT IS LEFT TO TURN stands behind all else, in the order of its numbers; moved all at once, it makes the same of the state
 abbrev way_in : State → Row → Fate
@@ -141,7 +141,7 @@ module _ (home : ℕ) (s : State) (k : Kept) (t : TurnsOn home s k) where
         let turns = it_turns.1 it_turns.0 in
         let first = ap (λ (rows : List Row). slice_get (standing (is_back code) (t.gone ++ rows)) 0) it.rest_is ∙ grind (arith, filter-append, none_gone code o.of_home, it.on) in
         let found = row_in_filter (length k.messages) (λ (row : Row). is_back code row.fate) (t.gone ++ t.rest) 0 it.row.number it.row t.stands.stands.numbered first refl in
-        let label = users_label it.row.body (slot_at it.row.number k.messages) (t.stands.stands.labels it.row.number ∙ ap (option_map label_of) (ap (option_map (λ (row : Row). row.body)) found)) (not-true (service_indicator it.row.body == 0) turns.0) in
+        let label = users_label it.row (slot_at it.row.number k.messages) (t.stands.stands.labels it.row.number ∙ ap (option_map label_of) found) turns.0 in
         record { number = it.row.number; first = o.first ∙ ap Some (sym it.number_is); message = label.0; message_is = label.1; stream = stream_of it.row.body; kind_is = label.2; few = turns.1; via = turns.2; place_is = ap (place_of (stream_of it.row.body)) t.stands.routing ∙ turns.3; known = subst (λ (n : ℕ). turns.2 < n) (ap length (sym t.stands.links)) turns.4 }
 
     -- and turns

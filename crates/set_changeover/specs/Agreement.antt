@@ -1,13 +1,13 @@
 -- WHAT A SET KEEPS, AND HOW IT AGREES WITH THE STATE that it stands for. Read this file first.
-use Rattle.std.specs.Prelude.{◌≡◌, ℕ, ◌+◌, ◌%◌, ◌==◌, Bool, true, List, length, Option, Some, slice_get, if◌then◌else◌, option_map}
+use Rattle.std.specs.Prelude.{◌≡◌, ℕ, ◌+◌, ◌%◌, Bool, true, List, length, Option, Some, slice_get, if◌then◌else◌, option_map}
 use Rattle.set_events.specs.declared.answer.Fate.{Fate}
 use Rattle.set_queues.specs.declared.message.Kind.{Kind}
 use Rattle.set_queues.specs.declared.message.Kind.TheVariants.{User, Order}
 pub use Rattle.set_queues.specs.declared.message.Message.{Message}
 use Rattle.set_queues.specs.Buffers.{Lists, is_standing, queue_at, last_at, profile_at}
-use Rattle.set_queues.specs.Messages.{fate_at, slot_at}
+use Rattle.set_queues.specs.Messages.{fate_at, slot_at, is_users as is_users_kind}
 use Rattle.set_route.specs.Routing.{Routing}
-use Rattle.set_model.specs.Rows.{Row, numbers, standing, same_fate, place, body_at, service_indicator, stream_of, IsNumbered}
+use Rattle.set_model.specs.Rows.{Row, numbers, standing, same_fate, is_users, is_managements, row_of, place, body_at, stream_of, IsNumbered}
 use Rattle.set_model.specs.Sound.{IsSound, AreFew}
 use Rattle.set_model.specs.State.{FinishedCounts, LinkState, State, Settings, given}
 use Rattle.set_model.specs.Checkpoint.{rebuilt}
@@ -35,11 +35,15 @@ place_in number k = fate_at number k.messages
 abbrev pub body_in : ℕ → Kept → Option (List ℕ)
 body_in number k = slot_at number k.bodies
 
+-- and whether it's a user's
+abbrev pub owner_in : ℕ → Kept → Option Bool
+owner_in number k = option_map (λ m. is_users_kind m.kind) (slot_at number k.messages)
+
 -- the state that is kept, with its rows in this order of their numbers, which the queues don't tell
 abbrev pub shown : List ℕ → Kept → State
 shown order k = record {
   settings = k.settings;
-  rows = rebuilt (λ number. place_in number k) (λ number. body_in number k) order;
+  rows = rebuilt (λ number. owner_in number k) (λ number. body_in number k) (λ number. place_in number k) order;
   finished = k.finished;
   links = k.links;
   routing = k.routing;
@@ -53,11 +57,14 @@ is_there fate other = same_fate other fate
 abbrev pub rows_at : Fate → List Row → List Row
 rows_at fate rows = standing (is_there fate) rows
 
--- whose a body is
-abbrev pub kind_of : List ℕ → Kind
-kind_of body = if service_indicator body == 0 then Order else User (stream_of body)
+-- whose a row is, and whose a body
+abbrev pub kind_of : Row → Kind
+kind_of row = if is_users row then User (stream_of row.body) else Order
 
--- what is kept of a body beside it
+abbrev pub kind_by : List ℕ → Kind
+kind_by body = if is_managements body then Order else User (stream_of body)
+
+-- what is kept of a row beside its fate and its body
 pub record Label : Type 0 where
   pub kind : Kind
   pub octets : ℕ
@@ -65,15 +72,15 @@ pub record Label : Type 0 where
 abbrev pub label_in : Message → Label
 label_in m = record { kind = m.kind; octets = m.octets }
 
-abbrev pub label_of : List ℕ → Label
-label_of body = record { kind = kind_of body; octets = length body }
+abbrev pub label_of : Row → Label
+label_of row = record { kind = kind_of row; octets = length row.body }
 
 -- THE QUEUES STAND FOR THE ROWS: each queue holds the numbers of the rows of its fate, in their order; each number's
--- fate is its row's, and its label its body's; no row has the number of an empty slot
+-- fate is its row's, and so is its label; no row has the number of an empty slot
 pub record Stands (q : Lists) (ms : List (Option Message)) (rows : List Row) : Type 0 where
   pub queues : (fate : Fate) → is_standing fate ≡ true → queue_at fate q ≡ numbers (rows_at fate rows)
   pub fates : (number : ℕ) → fate_at number ms ≡ place number rows
-  pub labels : (number : ℕ) → option_map label_in (slot_at number ms) ≡ option_map label_of (body_at number rows)
+  pub labels : (number : ℕ) → option_map label_in (slot_at number ms) ≡ option_map label_of (row_of number rows)
   pub numbered : IsNumbered (length ms) rows
 
 -- WHAT IS KEPT STANDS FOR THE STATE. The FSN last acknowledged on a link is its whole number's (Q.703 2.2).

@@ -8,7 +8,7 @@ ghost use Rattle.set_model.specs.Rows.{appended, put_ahead};
 ghost use Rattle.set_route.specs.Routing.{IsPlaceOf, place_of};
 ghost use Rattle.set_model.specs.State.{State, LinkState, given, fate_at, target, link_is_open, open_link};
 ghost use Rattle.set_model.specs.Step.{Outcome, in_service};
-ghost use Rattle.set_changeover.specs.Agreement.{StandsFor, Agrees, kind_of};
+ghost use Rattle.set_changeover.specs.Agreement.{StandsFor, Agrees, kind_by};
 ghost use Rattle.set_changeover.specs.Parts.{Up, IsWhole, IsHere, Gives, Becomes, kept_of};
 ghost use Rattle.set_changeover.specs.Room.{HasRoom, IsReady, SameButRoom, target_beside};
 
@@ -200,13 +200,17 @@ pub(crate) fn stand_ahead<A: Allocator + Copy>(parts: &mut Parts<A>, order: &[u8
     ensures routes { parts.new.routes ≡ parts.old.routes }
 {
     parts.bodies.add(order);
-    parts.queues.add_ahead(message_of(order, fate));
+    parts.queues.add_ahead(Message {
+        fate,
+        kind: Kind::Order,
+        octets: order.len() as u16,
+    });
 }
 
 /// What is kept of a message beside its body.
 fn message_of(body: &[u8], fate: Fate) -> Message
     requires { length body.now ≤ 273 }
-    ensures value { result ≡ record { fate = fate; kind = kind_of body.now; octets = length body.now } }
+    ensures value { result ≡ record { fate = fate; kind = kind_by body.now; octets = length body.now } }
     ensures fit { IsFit result }
 {
     let kind = match service_indicator(body) {

@@ -11,14 +11,14 @@ use Rattle.std.proofs.lemmas.Bool.Decides.{nat_tests}
 use Rattle.std.proofs.lemmas.List.Elements.{filter-append}
 use Rattle.set_model.specs.Rows.{Fate, Row, AreBefore, Each, IsNumbered, is_users, is_users_at, is_waiting, wait, put_ahead, appended, body_at, row_of, same_fate, standing}
 use Rattle.set_model.specs.Frame.{Gains, behind, passed, ahead}
-use Rattle.set_model.proofs.Rows.{new_row, no_rows, not_found, numbered_appended, row_is_first, with_number}
+use Rattle.set_model.proofs.Rows.{new_row, new_order, no_rows, not_found, numbered_appended, row_is_first, with_number}
 
 -- WHERE IT STANDS.
 pub record Put (number : ℕ) (body : List ℕ) (fate : Fate) (rows new : List Row) : Type 0 where
   pub front : List Row
   pub rest : List Row
   pub was : rows ≡ front ++ rest
-  pub is : new ≡ front ++ new_row number body fate ∷ rest
+  pub is : new ≡ front ++ new_order number body fate ∷ rest
   -- what it passes
   pub passed : filter (is_users_at fate) front ≡ []
 
@@ -48,10 +48,10 @@ put_apart number [] body fate test e = rw e refl
 put_apart number (x ∷ rows) body fate test e = grind (arith, put_apart number rows body fate test e)
 
 module _ (p : Row → Bool) (number : ℕ) (rows : List Row) (body : List ℕ) (fate : Fate) where
-  pub put_out : p (new_row number body fate) ≡ false → filter p (put_ahead number rows body fate) ≡ filter p rows
+  pub put_out : p (new_order number body fate) ≡ false → filter p (put_ahead number rows body fate) ≡ filter p rows
   put_out e =
       let t = put_there number rows body fate in
-      ap (filter p) t.is ∙ filter-append p t.front (new_row number body fate ∷ t.rest)
+      ap (filter p) t.is ∙ filter-append p t.front (new_order number body fate ∷ t.rest)
       ∙ rw e (sym (ap (filter p) t.was ∙ filter-append p t.front t.rest))
 
   -- those that the filter sees, with the message among them
@@ -59,17 +59,17 @@ module _ (p : Row → Bool) (number : ℕ) (rows : List Row) (body : List ℕ) (
     pub front : List Row
     pub rest : List Row
     pub was : filter p rows ≡ front ++ rest
-    pub is : filter p (put_ahead number rows body fate) ≡ front ++ new_row number body fate ∷ rest
+    pub is : filter p (put_ahead number rows body fate) ≡ front ++ new_order number body fate ∷ rest
     pub passed : filter (is_users_at fate) front ≡ []
 
-  pub put_in : p (new_row number body fate) ≡ true → Among
+  pub put_in : p (new_order number body fate) ≡ true → Among
   put_in e =
       let t = put_there number rows body fate in
       record {
         front = filter p t.front;
         rest = filter p t.rest;
         was = ap (filter p) t.was ∙ filter-append p t.front t.rest;
-        is = ap (filter p) t.is ∙ filter-append p t.front (new_row number body fate ∷ t.rest) ∙ rw e refl;
+        is = ap (filter p) t.is ∙ filter-append p t.front (new_order number body fate ∷ t.rest) ∙ rw e refl;
         passed = none_of (is_users_at fate) t.front t.passed;
       }
     where
@@ -78,26 +78,27 @@ module _ (p : Row → Bool) (number : ℕ) (rows : List Row) (body : List ℕ) (
       none_of q (x ∷ xs) e = grind (arith, none_of q xs)
 
   -- as many as if it stood last
-  pub put_many : length (filter p (put_ahead number rows body fate)) ≡ length (filter p (appended number rows body fate))
-  put_many =
+  pub put_many : p (new_order number body fate) ≡ p (new_row number body fate)
+      → length (filter p (put_ahead number rows body fate)) ≡ length (filter p (appended number rows body fate))
+  put_many alike =
       let t = put_there number rows body fate in
-      let new = ap (filter p) t.is ∙ filter-append p t.front (new_row number body fate ∷ t.rest) in
+      let new = ap (filter p) t.is ∙ filter-append p t.front (new_order number body fate ∷ t.rest) in
       let old = filter-append p rows (new_row number body fate ∷ []) ∙ ap (λ (xs : List Row). xs ++ filter p (new_row number body fate ∷ [])) (ap (filter p) t.was ∙ filter-append p t.front t.rest) in
-      grind (arith, new, old, length-append)
+      grind (arith, new, old, length-append, alike)
 
 pub put_length : (number : ℕ) (rows : List Row) (body : List ℕ) (fate : Fate) → length (put_ahead number rows body fate) ≡ length rows + 1
 put_length number rows body fate =
     let t = put_there number rows body fate in
-    ap length t.is ∙ length-append t.front (new_row number body fate ∷ t.rest)
+    ap length t.is ∙ length-append t.front (new_order number body fate ∷ t.rest)
     ∙ omega (arith, ap length t.was, length-append t.front t.rest)
 
 pub numbered_put : (given : ℕ) (rows : List Row) (body : List ℕ) (fate : Fate) → IsNumbered given rows
     → IsNumbered (given + 1) (put_ahead given rows body fate)
 numbered_put given rows body fate numbered number =
-    rw (put_many (λ (row : Row). row.number == number) given rows body fate) (numbered_appended given rows body fate numbered number)
+    rw (put_many (λ (row : Row). row.number == number) given rows body fate refl) (numbered_appended given rows body fate numbered number)
 
 -- a fact of each
-pub each_put : (P : Row → Type 0) (number : ℕ) (rows : List Row) (body : List ℕ) (fate : Fate) → Each P rows → P (new_row number body fate)
+pub each_put : (P : Row → Type 0) (number : ℕ) (rows : List Row) (body : List ℕ) (fate : Fate) → Each P rows → P (new_order number body fate)
     → Each P (put_ahead number rows body fate)
 each_put P number [] body fate each own = (own, tt)
 each_put P number (x ∷ rows) body fate each own = go (is_users_at fate x) refl (each_put P number rows body fate each.1 own)
@@ -139,7 +140,7 @@ put_others given rows body fate number low =
     ∙ sym (row_is_first number rows)
 
 pub put_found : (given : ℕ) (rows : List Row) (body : List ℕ) (fate : Fate) → IsNumbered given rows
-    → row_of given (put_ahead given rows body fate) ≡ Some (new_row given body fate)
+    → row_of given (put_ahead given rows body fate) ≡ Some (new_order given body fate)
 put_found given rows body fate numbered =
     let own : (given == given) ≡ true = grind (arith, nat_tests) in
     let t = put_in (λ (row : Row). row.number == given) given rows body fate own in
@@ -148,66 +149,53 @@ put_found given rows body fate numbered =
     row_is_first given (put_ahead given rows body fate) ∙ ap (λ (xs : List Row). slice_get xs 0) t.is ∙ rw front refl
 
 -- WHAT WAITS gains an order,
-gains_same : {managed : Type 0} (xs : List Row) → Gains managed xs xs
+gains_same : (xs : List Row) → Gains xs xs
 gains_same xs = behind xs xs [] (sym (append-nil xs))
 
-pub put_gains : {managed : Type 0} (n number : ℕ) (rows : List Row) (body : List ℕ) (fate : Fate)
-    → (managed → is_users (new_row number body fate) ≡ false)
-    → Gains managed (wait n rows) (wait n (put_ahead number rows body fate))
-put_gains {managed = managed} n number [] body fate order = go (is_waiting n fate) refl
+pub put_gains : (n number : ℕ) (rows : List Row) (body : List ℕ) (fate : Fate)
+    → Gains (wait n rows) (wait n (put_ahead number rows body fate))
+put_gains n number [] body fate = go (is_waiting n fate) refl
   where
-    go : (b : Bool) → is_waiting n fate ≡ b → Gains managed [] (wait n (put_ahead number [] body fate))
-    go true e = rw e (ahead (new_row number body fate) [] [] order (gains_same []))
+    go : (b : Bool) → is_waiting n fate ≡ b → Gains [] (wait n (put_ahead number [] body fate))
+    go true e = rw e (ahead (new_order number body fate) [] [] refl (gains_same []))
     go false e = rw e (gains_same [])
-put_gains {managed = managed} n number (x ∷ rows) body fate order = go (is_users_at fate x) refl (put_gains n number rows body fate order)
+put_gains n number (x ∷ rows) body fate = go (is_users_at fate x) refl (put_gains n number rows body fate)
   where
-    first : (b : Bool) → is_waiting n fate ≡ b → Gains managed (wait n (x ∷ rows)) (wait n (new_row number body fate ∷ x ∷ rows))
-    first true e = rw e (ahead (new_row number body fate) (wait n (x ∷ rows)) (wait n (x ∷ rows)) order (gains_same (wait n (x ∷ rows))))
+    first : (b : Bool) → is_waiting n fate ≡ b → Gains (wait n (x ∷ rows)) (wait n (new_order number body fate ∷ x ∷ rows))
+    first true e = rw e (ahead (new_order number body fate) (wait n (x ∷ rows)) (wait n (x ∷ rows)) refl (gains_same (wait n (x ∷ rows))))
     first false e = rw e (gains_same (wait n (x ∷ rows)))
 
     -- behind a user's message that waits for the link nothing comes, and it passes an order
     goes_on : is_users_at fate x ≡ false → (a b : Bool) → is_waiting n x.fate ≡ a → is_users x ≡ b
-        → Gains managed (wait n rows) (wait n (put_ahead number rows body fate))
-        → Gains managed (wait n (x ∷ rows)) (wait n (x ∷ put_ahead number rows body fate))
+        → Gains (wait n rows) (wait n (put_ahead number rows body fate))
+        → Gains (wait n (x ∷ rows)) (wait n (x ∷ put_ahead number rows body fate))
     goes_on off false b w u g = rw w g
     goes_on off true false w u g = rw w (passed x (wait n rows) (wait n (put_ahead number rows body fate)) u g)
     goes_on off true true w u g =
         let same = put_apart number rows body fate (is_waiting n) (grind arith) in
         rw (w, same) (gains_same (x ∷ wait n rows))
 
-    go : (b : Bool) → is_users_at fate x ≡ b → Gains managed (wait n rows) (wait n (put_ahead number rows body fate))
-        → Gains managed (wait n (x ∷ rows)) (wait n (put_ahead number (x ∷ rows) body fate))
+    go : (b : Bool) → is_users_at fate x ≡ b → Gains (wait n rows) (wait n (put_ahead number rows body fate))
+        → Gains (wait n (x ∷ rows)) (wait n (put_ahead number (x ∷ rows) body fate))
     go true e g = rw e (first (is_waiting n fate) refl)
     go false e g = rw e (goes_on e (is_waiting n x.fate) (is_users x) refl refl g)
 
 -- and gains more then
-gains_more : {managed : Type 0} (a b c more : List Row) → Gains managed a b → c ≡ b ++ more → Gains managed a c
+gains_more : (a b c more : List Row) → Gains a b → c ≡ b ++ more → Gains a c
 gains_more a b c more (behind _ _ some f) e = behind a c (some ++ more) (e ∙ ap (λ (xs : List Row). xs ++ more) f ∙ append_assoc a some more)
 gains_more (x ∷ a) (_ ∷ b) c more (passed _ _ _ o p) e = rw e (passed x a (b ++ more) o (gains_more a b (b ++ more) more p refl))
 gains_more a (x ∷ b) c more (ahead _ _ _ o p) e = rw e (ahead x a (b ++ more) o (gains_more a b (b ++ more) more p refl))
 
-pub gains_then : {managed : Type 0} (a b c : List Row) → Gains managed a b → Gains managed b c → Gains managed a c
+pub gains_then : (a b c : List Row) → Gains a b → Gains b c → Gains a c
 gains_then a b c p (behind _ _ more e) = gains_more a b c more p e
 gains_then a b (x ∷ c) p (ahead _ _ _ o q) = ahead x a c o (gains_then a b c p q)
 gains_then a (x ∷ b) (_ ∷ c) (ahead _ _ _ o p) (passed _ _ _ u q) = ahead x a c o (gains_then a b c p q)
 gains_then (x ∷ a) (_ ∷ b) (_ ∷ c) (passed _ _ _ o p) (passed _ _ _ u q) = passed x a c o (gains_then a b c p q)
 gains_then [] (x ∷ b) (_ ∷ c) (behind _ _ more e) (passed _ _ _ u q) = behind [] (x ∷ c) (x ∷ c) refl
-gains_then {managed = managed} (y ∷ a) (x ∷ b) (_ ∷ c) (behind _ _ more e) (passed _ _ _ u q) = at_head (ap (λ (xs : List Row). slice_get xs 0) e) (gains_then a b c (behind a b more (ap (drop 1) e)) q)
+gains_then (y ∷ a) (x ∷ b) (_ ∷ c) (behind _ _ more e) (passed _ _ _ u q) = at_head (ap (λ (xs : List Row). slice_get xs 0) e) (gains_then a b c (behind a b more (ap (drop 1) e)) q)
   where
-    at_head : Some x ≡ Some y → Gains managed a c → Gains managed (y ∷ a) (x ∷ c)
-    at_head s g = subst (λ (z : Row). Gains managed (z ∷ a) (x ∷ c)) (same_Some x y s) (passed x a c u g)
-
--- what has a body keeps it
-pub put_bodies : (given : ℕ) (rows : List Row) (body : List ℕ) (fate : Fate) → IsNumbered given rows → (number : ℕ) (other : List ℕ)
-    → body_at number rows ≡ Some other → body_at number (put_ahead given rows body fate) ≡ Some other
-put_bodies given rows body fate numbered number other e = go (nat_lt number given) refl
-  where
-    go : (low : Bool) → nat_lt number given ≡ low → body_at number (put_ahead given rows body fate) ≡ Some other
-    go true below = ap (option_map (λ (row : Row). row.body)) (put_others given rows body fate number (grind (arith, nat_tests))) ∙ e
-    go false below =
-        let none = not_found given number rows numbered (grind (arith, nat_tests)) in
-        let never : None ≡ Some other = sym (ap (option_map (λ (row : Row). row.body)) none) ∙ e in
-        absurd cc
+    at_head : Some x ≡ Some y → Gains a c → Gains (y ∷ a) (x ∷ c)
+    at_head s g = subst (λ (z : Row). Gains (z ∷ a) (x ∷ c)) (same_Some x y s) (passed x a c u g)
 
 -- a body that's found then was there, or is the new one
 pub put_row : (given : ℕ) (rows : List Row) (body : List ℕ) (fate : Fate) → IsNumbered given rows → (number : ℕ) (other : List ℕ)
@@ -224,7 +212,7 @@ put_row given rows body fate numbered number other e = go (nat_lt number given) 
         inl (ap (option_map (λ (row : Row). row.body)) (sym (put_others given rows body fate number (grind (arith, nat_tests)))) ∙ e)
     go false true below is =
         let same : number ≡ given = eqb-true number given is in
-        let own : row_of number new ≡ Some (new_row given body fate) = rw same (put_found given rows body fate numbered) in
+        let own : row_of number new ≡ Some (new_order given body fate) = rw same (put_found given rows body fate numbered) in
         let found : Some body ≡ Some other = sym (ap (option_map (λ (row : Row). row.body)) own) ∙ e in
         inr (sym same, same_Some body other found)
     go false false below is =

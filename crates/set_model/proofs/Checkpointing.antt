@@ -7,13 +7,13 @@
 use Rattle.l2_units.specs.Profile.{longest_body}
 use Rattle.std.proofs.Common.{refl, arith, ◌≡◌, ◌≤◌, ℕ, ◌+◌, ◌==◌, ◌&&◌, ◌||◌, not, Bool, true, false, List, [], ◌∷◌, length, filter, None, Some, slice_get, suc, ◌∙◌, ap, subst, sym}
 use Rattle.set_model.specs.Checkpoint.{Checkpoints, checkpointed, counts_in, rebuilt, stays, unfinished, was_discarded_by}
-use Rattle.set_model.specs.Rows.{Emergency, NoAnswer, Unreasonable, Fate, IsNumbered, Row, is_users, row_of, standing, users, was_acked, was_discarded}
+use Rattle.set_model.specs.Rows.{Emergency, NoAnswer, Unreasonable, Fate, IsNumbered, Row, is_users, is_managements, row_of, standing, users, was_acked, was_discarded}
 use Rattle.set_model.specs.Sound.{IsBackOf, IsSound, IsSoundCode, is_unfinished}
 use Rattle.set_model.specs.State.{State, given}
 use Rattle.set_route.specs.Routing.{code_of}
 use Rattle.set_model.proofs.Order.{before_filter}
 use Rattle.set_model.proofs.Rows.{at_most_one, each_filter, fewer_filter, filter_comm, filter_within, no_rows, row_in_filter, with_number}
-use Rattle.set_model.specs.Rows.{place, body_at, stands_back, numbers, waits, was_sent, was_held, is_on, is_held, is_unacked, is_waiting, is_parked}
+use Rattle.set_model.specs.Rows.{place, body_at, owner_at, stands_back, numbers, waits, was_sent, was_held, is_on, is_held, is_unacked, is_waiting, is_parked}
 
 -- each that leaves is in one count
 all_ended : (rows : List Row) → length rows
@@ -84,6 +84,7 @@ checkpoint_sound s t =
       count = t.count;
       numbered = subst (λ (k : ℕ). IsNumbered k (unfinished s.rows)) (sym (given_stays s)) (numbered_still (given s) s.rows t.numbered);
       fit = each_filter _ (λ row. length row.body ≤ longest_body s.settings.profile) (λ row. is_unfinished row.fate) (λ x e f. f) s.rows t.fit;
+      marked = each_filter _ (λ row. is_users row ≡ not (is_managements row.body)) (λ row. is_unfinished row.fate) (λ x e f. f) s.rows t.marked;
       links = λ n link at. let l = t.links n link at in record {
         profile = l.profile;
         window = omega (arith, l.window, ap length (sent n));
@@ -116,14 +117,14 @@ checkpoints s = record {
 -- WHAT THE ROWS ARE, by their numbers in order and what is found under each
 rebuilt_on : (given : ℕ) (all rows : List Row) → IsNumbered given all
     → ((i : ℕ) (row : Row) → slice_get rows i ≡ Some row → row_of row.number all ≡ Some row)
-    → rebuilt (λ n. place n all) (λ n. body_at n all) (numbers rows) ≡ rows
+    → rebuilt (λ n. owner_at n all) (λ n. body_at n all) (λ n. place n all) (numbers rows) ≡ rows
 rebuilt_on given all [] numbered found = refl
 rebuilt_on given all (x ∷ rows) numbered found =
     let here = found 0 x refl in
     let rest = rebuilt_on given all rows numbered (λ i row e. found (suc i) row e) in
     grind (arith, here, rest)
 
-pub rows_are : (given : ℕ) (rows : List Row) → IsNumbered given rows → rebuilt (λ n. place n rows) (λ n. body_at n rows) (numbers rows) ≡ rows
+pub rows_are : (given : ℕ) (rows : List Row) → IsNumbered given rows → rebuilt (λ n. owner_at n rows) (λ n. body_at n rows) (λ n. place n rows) (numbers rows) ≡ rows
 rows_are given rows numbered =
     rebuilt_on given rows rows numbered
     (λ i row e. row_in_filter given (λ row. true) rows i row.number row numbered

@@ -9,13 +9,13 @@ use Rattle.std.proofs.Common.{inl, inr, refl, arith, ◌≡◌, ◌∙◌, ap, �
 use Rattle.std.proofs.lemmas.Bool.Decides.{nat_tests}
 use Rattle.std.proofs.lemmas.List.{append-nil, map-append}
 use Rattle.std.proofs.lemmas.List.Elements.{filter-append}
-use Rattle.set_model.specs.Rows.{DiscardCause, NoAnswer, Fate, Acked, Discarded, Parked, Unacked, Waiting, AreFit, IsHeldLast, IsInOrder, IsNumbered, Row, all_with, appended, back, body_at, changed, counts_of, fated, held, is_held, is_on, is_parked, is_unacked, is_waiting, moved, numbers, on, one_changed, orders_changed, parked, same_fate, waits, is_users, users, standing, stands_back, total_of, turned, unack, wait, was_acked, with_fate}
+use Rattle.set_model.specs.Rows.{DiscardCause, NoAnswer, Fate, Acked, Discarded, Parked, Unacked, Waiting, AreFit, AreMarked, IsHeldLast, IsInOrder, IsNumbered, Row, all_with, appended, back, body_at, owner_at, changed, counts_of, fated, held, is_held, is_on, is_parked, is_unacked, is_waiting, moved, numbers, on, one_changed, orders_changed, parked, same_fate, waits, is_users, users, standing, stands_back, total_of, turned, unack, wait, was_acked, with_fate}
 use Rattle.set_model.specs.Control.{Choice, first}
 use Rattle.set_model.specs.Laws.{IsEmptyLink}
 use Rattle.set_model.specs.Sound.{is_unfinished}
 use Rattle.set_model.specs.Step.{rows_sent}
 use Rattle.set_model.proofs.Places.{itself, apart_back, on_other, not_on_waiting, not_on_unacked, not_on_held}
-use Rattle.set_model.proofs.Rows.{InPlace, turned_there, picked_there, turned_same, turned_left, moved_length, moved_fit, moved_numbered, moved_gone, moved_same, moved_joined, filter_moved, filter_comm, filter_within, none_within, body_moved, total_is, new_row, same_numbers}
+use Rattle.set_model.proofs.Rows.{InPlace, turned_there, picked_there, turned_same, turned_left, moved_length, moved_fit, moved_marked, moved_numbered, moved_gone, moved_same, moved_joined, filter_moved, filter_comm, filter_within, none_within, body_moved, owner_moved, total_is, new_row, same_numbers}
 use Rattle.set_model.proofs.Order.{before_filter, before_none, before_within, first_sent, on_in_order}
 
 -- Rows that got their fates have the same numbers and octets.
@@ -29,9 +29,11 @@ numbers_joined fate xs ys = map-append (λ (row : Row). row.number) xs (map (fat
 -- What every change but a new message keeps.
 pub record Kept (rows new : List Row) : Type 0 where
   pub fit : (p : Profile) → AreFit p rows → AreFit p new
+  pub marked : AreMarked rows → AreMarked new
   pub numbered : (given : ℕ) → IsNumbered given rows → IsNumbered given new
   pub count : length new ≡ length rows
   pub bodies : (given : ℕ) → IsNumbered given rows → (number : ℕ) → body_at number new ≡ body_at number rows
+  pub owners : (given : ℕ) → IsNumbered given rows → (number : ℕ) → owner_at number new ≡ owner_at number rows
   pub total : total_of (counts_of new) ≡ total_of (counts_of rows)
   pub acked : (counts_of rows).acked ≤ (counts_of new).acked
 
@@ -42,7 +44,8 @@ moved_kept test fate rows o w =
     let none : (f : Fate) → test f ≡ true → was_acked f ≡ false = λ f e. grind arith in
     let numbered = λ (given : ℕ) (n : IsNumbered given rows). moved_numbered test fate given rows n in
     let bodies = λ (given : ℕ) (n : IsNumbered given rows) (number : ℕ). body_moved test fate given number rows n in
-    grind (arith, moved_fit, numbered, moved_length, bodies, total_is, filter_moved, filter_comm, moved_same)
+    let owners = λ (given : ℕ) (n : IsNumbered given rows) (number : ℕ). owner_moved test fate given number rows n in
+    grind (arith, moved_fit, moved_marked, numbered, moved_length, bodies, owners, total_is, filter_moved, filter_comm, moved_same)
 
 -- Nothing that link n sees changed.
 pub record Untouched (n : ℕ) (rows new : List Row) : Type 0 where

@@ -7,7 +7,7 @@
 use Rattle.l2_units.specs.declared.profile.Profile.{Profile}
 use Rattle.l2_units.specs.Profile.{longest_body}
 use Rattle.std.proofs.Common.{refl, arith, ◌≡◌, ◌∙◌, ap, sym, [], ◌∷◌, length, ◌≤◌, Bool, true, false, List, ◌++◌, map, filter, not, ◌+◌, ◌<◌, ℕ, ◌==◌, None, cond, zero, suc, drop, Some, slice_get, option_map}
-use Rattle.set_model.specs.Rows.{Acked, Fate, Each, AreBefore, AreFit, Row, fated, standing, IsNumbered, moved, picked_changed, counts_of, is_parked, stands_back, total_of, users, waits, was_acked, was_discarded, was_held, was_sent, appended, row_of, body_at, changed, turned, with_fate, numbers, place}
+use Rattle.set_model.specs.Rows.{Acked, Fate, Each, AreBefore, AreFit, AreMarked, Row, is_users, is_managements, fated, standing, IsNumbered, moved, picked_changed, counts_of, is_parked, stands_back, total_of, users, waits, was_acked, was_discarded, was_held, was_sent, appended, row_of, body_at, owner_at, changed, turned, with_fate, numbers, place}
 use Rattle.std.proofs.lemmas.List.{append-nil, length-append, length-map, length_push}
 pub use Rattle.std.proofs.lemmas.List.{nil_from_length as no_rows}
 use Rattle.std.proofs.lemmas.List.Elements.{filter-append}
@@ -66,6 +66,10 @@ pub each_filter : (P Q : Row → Type 0) (p : Row → Bool) → ((x : Row) → p
 each_filter P Q p so [] e = tt
 each_filter P Q p so (x ∷ rows) e = grind (arith, each_filter P Q p so rows e.1)
 
+pub marked_fated : (fate : Row → Fate) (xs : List Row) → AreMarked xs → AreMarked (map (fated fate) xs)
+marked_fated fate [] a = a
+marked_fated fate (x ∷ xs) a = (a.0, marked_fated fate xs a.1)
+
 pub fit_fated : (p : Profile) (fate : Row → Fate) (xs : List Row) → AreFit p xs → AreFit p (map (fated fate) xs)
 fit_fated p fate [] a = a
 fit_fated p fate (x ∷ xs) a = (a.0, fit_fated p fate xs a.1)
@@ -87,6 +91,11 @@ module _ (test : Fate → Bool) (fate : Row → Fate) where
   moved_fit q rows a = let fits =
       λ (p : Row → Bool). each_filter _ (λ row. length row.body ≤ longest_body q) p (λ x e f. f) rows a
       in search (each_append, fits, fit_fated)
+
+  pub moved_marked : (rows : List Row) → AreMarked rows → AreMarked (moved test fate rows)
+  moved_marked rows a = let marks =
+      λ (p : Row → Bool). each_filter _ (λ row. is_users row ≡ not (is_managements row.body)) p (λ x e f. f) rows a
+      in search (each_append, marks, marked_fated)
 
 -- WHAT THE FILTERS SEE OF A MOVE.
 module _ (test other : Fate → Bool) (fate : Row → Fate) (rows : List Row) where
@@ -143,7 +152,11 @@ abbrev pub with_number : ℕ → List Row → List Row
 with_number number rows = filter (λ row. row.number == number) rows
 
 abbrev pub new_row : ℕ → List ℕ → Fate → Row
-new_row number body fate = record { number = number; body = body; fate = fate }
+new_row number body fate = record { number = number; body = body; users = not (is_managements body); fate = fate }
+
+-- and one of the management
+abbrev pub new_order : ℕ → List ℕ → Fate → Row
+new_order number body fate = record { number = number; body = body; users = false; fate = fate }
 
 pub numbered_appended : (given : ℕ) (rows : List Row) (body : List ℕ) (fate : Fate) → IsNumbered given rows
     → IsNumbered (given + 1) (appended given rows body fate)
@@ -174,8 +187,10 @@ module _ (test : Fate → Bool) (fate : Fate) (P : List Row → List Row → Typ
 pub record InPlace (test : Fate → Bool) (fate : Fate) (xs ys : List Row) : Type 0 where
   pub count : length ys ≡ length xs
   pub fit : (p : Profile) → AreFit p xs → AreFit p ys
+  pub marked : AreMarked xs → AreMarked ys
   pub as_many : (p : Row → Bool) → ((f : Fate) (x : Row) → p (with_fate f x) ≡ p x) → length (filter p ys) ≡ length (filter p xs)
   pub bodies : (number : ℕ) → body_at number ys ≡ body_at number xs
+  pub owners : (number : ℕ) → owner_at number ys ≡ owner_at number xs
   -- where no acknowledged one turns
   pub acked : ((l : ℕ) → test (Acked l) ≡ false) → length (standing was_acked (users xs)) ≤ length (standing was_acked (users ys))
   -- a place where none comes has no more than before; and where none turns either it has the same
@@ -245,6 +260,9 @@ module _ (test : Fate → Bool) (fate : Row → Fate) where
 
   pub body_moved : (given number : ℕ) (rows : List Row) → IsNumbered given rows → body_at number (moved test fate rows) ≡ body_at number rows
   body_moved given number rows numbered = let one = row_moved given number rows numbered in grind (arith, one)
+
+  pub owner_moved : (given number : ℕ) (rows : List Row) → IsNumbered given rows → owner_at number (moved test fate rows) ≡ owner_at number rows
+  owner_moved given number rows numbered = let one = row_moved given number rows numbered in grind (arith, one)
 
 -- UNIQUE: a row of a filter is the one that its number finds.
 found_in : (p : Row → Bool) (rows : List Row) (i k : ℕ) (row : Row) → slice_get (filter p rows) i ≡ Some row

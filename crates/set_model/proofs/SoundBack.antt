@@ -21,7 +21,7 @@ use Rattle.set_route.proofs.Places.{again_at, again_sound, answered_at, answered
 use Rattle.set_model.proofs.Order.{ascends_filter, backs_of, before_none, coded_at, gone_none, none_standing, stood}
 use Rattle.set_model.proofs.Events.{left, unparked, untouched}
 use Rattle.set_model.proofs.Lists.{get_set_same, get_set_other, within, each_set, target_open, target_off, none_open}
-use Rattle.set_model.proofs.Rows.{each_filter, moved_off, moved_length, moved_numbered, numbered_on, moved_fit, moved_same, moved_more, moved_nothing, fated_none}
+use Rattle.set_model.proofs.Rows.{each_filter, moved_off, moved_length, moved_numbered, numbered_on, moved_fit, moved_marked, moved_same, moved_more, moved_nothing, fated_none}
 use Rattle.set_model.proofs.Places.{false_true, apart_back, on_other, not_on_waiting, back_not_on, back_not_parked, code_back, home_back}
 use Rattle.set_model.proofs.Staying.{not_sent, offered_out}
 use Rattle.set_model.proofs.Walk.{IsAt}
@@ -55,7 +55,7 @@ moved_sound s links routing test fate t long sound same gone follows codes aside
     (moved_numbered test fate (given s) s.rows t.numbered) in
     let coded = λ (code : ℕ). code_kept links links (given s) (all_finished s.finished + length (moved test fate s.rows)) code (code_of code routing)
     (λ e. e) (λ via p. p) (omega (arith, moved_length test fate s.rows)) (codes code) in
-    search (numbered, moved_fit, coded)
+    search (numbered, moved_fit, moved_marked, coded)
 
 -- A LINK COMES UP, and nothing else changes.
 pub risen_sound : (n : ℕ) (link : LinkState) (s : State) → IsAt n link Settled s → IsSound s → IsSound (risen n s)
@@ -74,6 +74,7 @@ risen_sound n link s at t =
       count = length-set s.links n new ∙ t.count;
       numbered = t.numbered;
       fit = t.fit;
+      marked = t.marked;
       links = links_set s.settings s.links n new s.rows s.rows one (λ k d. untouched k s.rows s.rows refl) t.links;
       placed = λ stream low. placed_set s.links n link new (place_of stream s.routing) at.there idle (t.placed stream low);
       none_aside = open_before s.links n link new at.there (λ o. absurd cc) t.none_aside;

@@ -4,7 +4,7 @@
 -- the other links see nothing (`changes`); the link's own window stays within its bound, its cursor in range
 -- (`range_heard`), and the FSN that it expects is its count of accepted bodies, modulo the FSNs (`expected_heard`). A
 -- new row stands last (`appended_sound`). No induction. Used by Soundness.antt and SoundBack.antt.
-use Rattle.std.proofs.Common.{arith, ◌||◌, ◌≡◌, ◌≢◌, ◌<◌, ◌≤◌, ℕ, ◌+◌, ◌%◌, Bool, length, drop, refl, ◌∙◌, ap, sym, subst, ◌==◌, true, false, List, [], ◌++◌, map, slice_get, slice_set, Some, cond, ◌∷◌, None, Option}
+use Rattle.std.proofs.Common.{not, arith, ◌||◌, ◌≡◌, ◌≢◌, ◌<◌, ◌≤◌, ℕ, ◌+◌, ◌%◌, Bool, length, drop, refl, ◌∙◌, ap, sym, subst, ◌==◌, true, false, List, [], ◌++◌, map, slice_get, slice_set, Some, cond, ◌∷◌, None, Option}
 use Rattle.std.proofs.lemmas.List.{length-drop, append-nil, length-map, length-append, length-set, length-take}
 use Rattle.std.proofs.lemmas.Bool.Decides.{nat_tests}
 use Rattle.std.proofs.lemmas.Option.{none-some}
@@ -16,7 +16,7 @@ use Rattle.std.proofs.lemmas.List.Elements.{filter-append}
 use Rattle.l2_units.specs.Grammar.{head_of as header_in}
 use Rattle.set_route.specs.Routing.{IsRouting, Routing, accepted, code_of, home_of, owed_under, place_of, via_of}
 use Rattle.set_model.specs.Changeover.{acknowledged_by, answered_link, Order, fate_on, queued, taken_back, withdrawn}
-use Rattle.set_model.specs.Rows.{IsNumbered, AreFit, DiscardCause, Fate, Discarded, Row, changed, fated, held, users, is_held, is_on, is_parked, is_unacked, is_waiting, moved, octets_in, on, orders_changed, standing, stands_back, unack, wait, Back, back, appended, put_ahead, parked, same_fate, service_indicator, stream_of, IsInOrder, IsHeldLast}
+use Rattle.set_model.specs.Rows.{IsNumbered, AreFit, AreMarked, is_managements, DiscardCause, Fate, Discarded, Row, changed, fated, held, users, is_held, is_on, is_parked, is_unacked, is_waiting, moved, octets_in, on, orders_changed, standing, stands_back, unack, wait, Back, back, appended, put_ahead, parked, same_fate, service_indicator, stream_of, IsInOrder, IsHeldLast}
 use Rattle.set_model.specs.State.{Code, all_finished, given, Place, Changing, Nowhere, On, Down, Up, Settled, LinkState, State, Settings, with_link, has_phase_settled, has_phase_up, link_is_open, open_link, opens_in, carries, carries_in, Phase, window_of, fate_at, target}
 use Rattle.set_model.specs.Step.{Event, Offer, SignalUnit, choice_in, controlled, is_msu, one_if, part_in, next, rows_sent, offer_refusal, offered}
 use Rattle.set_model.proofs.Order.{backs_of, stood, before_append, before_none, neither, gone_none, coded_at, ascends_appended}
@@ -156,7 +156,7 @@ changes n link link' s new t there same tests unsettled g profile few counted me
     let codes = λ (code : ℕ). code_kept s.links (slice_set s.links n link') (given s) (all_finished s.finished + length new) code (code_of code s.routing)
     (stays (home_of code)) (λ via. placed_set s.links n link link' (On via) there (λ e. carried ∙ e)) more (t.codes code) in
     let placed = λ (k : ℕ) (low : k < 16). placed_set s.links n link link' (place_of k s.routing) there (λ e. carried ∙ e) (t.placed k low) in
-    search (length-set, numbered, g.kept.fit s.settings.profile, placed, codes, backs, g.back_same)
+    search (length-set, numbered, g.kept.fit s.settings.profile, g.kept.marked, placed, codes, backs, g.back_same)
 
 -- the inbox is no part of it
 pub with_inbox : (s : State) (inbox : List (List ℕ)) → IsSound s → IsSound (record s { inbox = inbox })
@@ -306,6 +306,7 @@ takes_back order from s g t =
       count = t.count;
       numbered = numbered_on (all_finished s.finished) s.rows new g.kept.count (g.kept.numbered (given s) t.numbered);
       fit = g.kept.fit s.settings.profile t.fit;
+      marked = g.kept.marked t.marked;
       links = λ n link there.
           let l = t.links n link there in
           record {
@@ -366,6 +367,7 @@ answers n link s at t =
       count = length-set s.links n new ∙ t.count;
       numbered = t.numbered;
       fit = t.fit;
+      marked = t.marked;
       links = links_set s.settings s.links n new s.rows s.rows one (λ k d. untouched k s.rows s.rows refl) t.links;
       placed = λ stream low. placed_set s.links n link new (place_of stream s.routing) at.there (λ e. e) (t.placed stream low);
       none_aside = open_before s.links n link new at.there (λ e. e) t.none_aside;
@@ -448,6 +450,7 @@ module _ (s : State) (routing : Routing) (t : IsSound s) (sound : IsRouting rout
       → parked (appended (given s) s.rows body fate) ≡ [] = λ k other there rising. let o =
       opened k other there in grind (arith, appended_out) in
       let fit : AreFit s.settings.profile (appended (given s) s.rows body fate) = each_append _ s.rows _ t.fit (fits, tt) in
+      let marked : AreMarked (appended (given s) s.rows body fate) = each_append _ s.rows _ t.marked (refl, tt) in
       let more : given (record s { rows = appended (given s) s.rows body fate; routing = routing }) ≡ given s + 1 = grind (arith, length-append) in
       let numbered : IsNumbered (given (record s { rows = appended (given s) s.rows body fate; routing = routing }))
       (appended (given s) s.rows body fate) = rw more (numbered_appended (given s) s.rows body fate t.numbered) in
@@ -465,6 +468,7 @@ queues order s t =
     let fate = fate_on (target s.links) in
     let new = put_ahead (given s) s.rows body fate in
     let out = put_apart (given s) s.rows body fate in
+    let mark : false ≡ not (is_managements body) = let managed = t.managed in grind arith in
     let links = λ (k : ℕ) (link : LinkState) (there : slice_get s.links k ≡ Some link). link_put s.settings k link (given s)
     s.rows body fate (on_same (target s.links)) (grind arith) (grind arith) (λ w. open_up link (grind (arith, nat_tests, target_open)))
     (λ e. grind (arith, nat_tests, target_open, carried_open)) (t.links k link there) in
@@ -479,6 +483,7 @@ queues order s t =
       count = t.count;
       numbered = rw more (numbered_put (given s) s.rows body fate t.numbered);
       fit = each_put _ (given s) s.rows body fate t.fit (grind arith);
+      marked = each_put _ (given s) s.rows body fate t.marked mark;
       links = links;
       placed = t.placed;
       none_aside = aside;

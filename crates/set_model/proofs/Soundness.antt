@@ -30,7 +30,7 @@ use Rattle.set_model.specs.Changeover.{Order, acknowledged_code, fate_on, left_b
 use Rattle.set_model.specs.Control.{Choice}
 use Rattle.set_route.proofs.Alone.{alone}
 use Rattle.set_route.proofs.Quiet.{left_quiet, back_quiet, answered_quiet, settled_quiet, never_changing}
-use Rattle.set_model.proofs.Rows.{filter_within, none_within, new_row, where_turned, where_picked, moved_nothing, no_rows}
+use Rattle.set_model.proofs.Rows.{filter_within, none_within, new_row, new_order, where_turned, where_picked, moved_nothing, no_rows}
 use Rattle.set_model.proofs.Order.{ascends_appended, none_standing}
 use Rattle.set_model.proofs.Ahead.{put_out}
 use Rattle.set_model.proofs.Places.{false_true, itself, code_back, home_back}
@@ -85,6 +85,7 @@ module _ (settings : Settings) (is : IsSettings settings) where
     count = length-replicate settings.links (new_link settings.profile settings.method);
     numbered = λ number. grind (arith, nat_tests);
     fit = tt;
+    marked = tt;
     links = λ n link there. grind (arith, new_there);
     placed = λ stream low. subst (IsPlaced _) (sym (new_place settings.links stream_numbers stream)) tt;
     none_aside = λ n link there rising. refl;
@@ -152,7 +153,7 @@ stream_appended given stream place used used' rows body fate numbered t fits gro
 
 -- an order is of no stream
 pub stream_put : (number stream : ℕ) (place : Place) (used : Bool) (rows : List Row) (body : List ℕ) (fate : Fate)
-    → is_live stream (new_row number body fate) ≡ false → IsSoundStream stream place used rows
+    → is_live stream (new_order number body fate) ≡ false → IsSoundStream stream place used rows
     → IsSoundStream stream place used (put_ahead number rows body fate)
 stream_put number stream place used rows body fate dead t =
     let live_same : live stream (put_ahead number rows body fate) ≡ live stream rows = put_out (is_live stream) number rows body fate dead in

@@ -12,7 +12,7 @@ use Rattle.std.proofs.lemmas.Bool.{cond_both}
 use Rattle.std.proofs.lemmas.Bool.Decides.{nat_tests}
 use Rattle.set_model.specs.Laws.{MessagesStay, MovesTheLinksRows, KeepsMessages}
 use Rattle.set_model.specs.Rows.{Fate, IsNumbered, Row, appended, put_ahead, counts_of, service_indicator, total_of, was_acked, Acked, Unacked, is_on, is_unacked, is_waiting, moved, standing, turned, unack}
-use Rattle.set_model.proofs.Rows.{turned_there, picked_there, moved_length, moved_numbered, not_found, numbered_appended, same_numbers, no_rows, body_moved, place_moved, row_is_first, total_is, filter_comm, fewer_filter, fated_none, turned_left}
+use Rattle.set_model.proofs.Rows.{turned_there, picked_there, moved_length, moved_numbered, not_found, numbered_appended, same_numbers, no_rows, body_moved, owner_moved, place_moved, row_is_first, total_is, filter_comm, fewer_filter, fated_none, turned_left}
 use Rattle.set_model.proofs.Events.{ChangesOn, TakenBack, numbers_fated, Kept, moved_kept, acknowledged, appended_out}
 use Rattle.std.proofs.lemmas.List.Elements.{filter-append}
 use Rattle.l3_orders.specs.Grammar.{text}
@@ -32,10 +32,11 @@ pub messages_stay : (test : Fate → Bool) (to : Fate) (fate : Row → Fate) (gi
 messages_stay test to fate given rows numbered =
     let turned = turned_there test to in
     let moved_same = λ (number : ℕ). body_moved test fate given number rows numbered in
+    let owned_same = λ (number : ℕ). owner_moved test fate given number rows numbered in
     let moved_on = moved_numbered test fate given rows numbered in
     let none = not_found given given rows numbered in
     let found = λ (body : List ℕ). put_found given rows body to numbered in
-    grind (arith, nat_tests, turned, same_numbers, moved_length, moved_same, moved_on, none, find-append, row_is_first, no_rows, numbered_appended, put_others, found, numbered_put)
+    grind (arith, nat_tests, turned, same_numbers, moved_length, moved_same, owned_same, moved_on, none, find-append, row_is_first, no_rows, numbered_appended, put_others, found, numbered_put)
 
 pub moves_rows : (link : ℕ) (fate : Row → Fate) (given : ℕ) (rows : List Row) → IsNumbered given rows → MovesTheLinksRows link fate rows
 moves_rows link fate given rows numbered =
@@ -76,7 +77,7 @@ step_grows s event =
     let grows_then : (Free : Type 0) (a b c : State) → Grows Free a b → Grows Free b c → Grows Free a c = λ Free a b c p q. grind arith in
     let grows_kept : (Free : Type 0) (s t : State) → t.settings ≡ s.settings → t.finished ≡ s.finished
     → Kept s.rows t.rows → Grows Free s t = λ Free s t same gone k. let bodies =
-    k.bodies (given s) in let numbered = k.numbered (given s) in grind (arith, bodies, numbered) in
+    k.bodies (given s) in let owners = k.owners (given s) in let numbered = k.numbered (given s) in grind (arith, bodies, owners, numbered) in
     let none_offered : (body : List ℕ) → event ≡ Offer body → is_offer event ≡ false
     → (service_indicator body == 0) ≡ true =
     λ body e other. absurd (let no : true ≡ false = sym (ap is_offer e) ∙ other in cc) in

@@ -1,5 +1,5 @@
 -- A CHECKPOINT: what a set goes on from without the messages that are finished. They leave its rows and are counted.
-use Rattle.std.specs.Prelude.{◌≡◌, ◌+◌, ◌&&◌, not, ℕ, Bool, List, [], ◌∷◌, length, filter, Option, None, Some, if◌then◌else◌, unwrap_or}
+use Rattle.std.specs.Prelude.{◌≡◌, ◌+◌, ◌&&◌, not, ℕ, Bool, false, List, [], ◌∷◌, length, filter, Option, None, Some, if◌then◌else◌, unwrap_or}
 use Rattle.set_events.specs.declared.answer.Counts.{Counts}
 use Rattle.set_model.specs.Rows.{Fate, DiscardCause, Emergency, Unreasonable, NoAnswer, Discarded, Parked, Row, standing, is_users, users, was_acked, same_fate, counts_of, row_of}
 use Rattle.set_model.specs.Sound.{IsSound, is_unfinished}
@@ -42,10 +42,14 @@ stays None = None
 stays (Some row) = if is_unfinished row.fate then Some row else None
 
 -- THE ROWS of these numbers, by what is found under each
-abbrev pub rebuilt : (ℕ → Option Fate) → (ℕ → Option (List ℕ)) → List ℕ → List Row
-rebuilt fate body [] = []
-rebuilt fate body (n ∷ ns) =
-    record { number = n; body = unwrap_or (body n) []; fate = unwrap_or (fate n) Parked } ∷ rebuilt fate body ns
+abbrev pub rebuilt : (ℕ → Option Bool) → (ℕ → Option (List ℕ)) → (ℕ → Option Fate) → List ℕ → List Row
+rebuilt users body fate [] = []
+rebuilt users body fate (n ∷ ns) = record {
+  number = n;
+  body = unwrap_or (body n) [];
+  users = unwrap_or (users n) false;
+  fate = unwrap_or (fate n) Parked;
+} ∷ rebuilt users body fate ns
 
 -- LAW: no number is given out anew, each row that stays is as it was, the others are counted where they stood, and what
 -- holds of every state holds

@@ -10,7 +10,6 @@ use Rattle.set_route.specs.Routing.{place_of, home_of}
 use Rattle.set_model.specs.Changeover.{order_at}
 use Rattle.set_model.specs.Rows.{Waiting, Row, stream_of, unack, wait, held, octets_in, is_users}
 use Rattle.set_model.specs.Control.{Choice, first, control_after, window_heard, control_heard}
-use Rattle.set_model.specs.Sound.{IsManaged}
 use Rattle.set_model.specs.State.{On, LinkState, State, is_open, window_of}
 use Rattle.set_model.specs.Step.{SignalUnit, Msu, Event, Offer, Next, Heard, UpEvent, DownEvent, DownBlind, NoAnswer, Timed, BackTimeout, choice_in, next, controlled, controls, is_msu, is_heard}
 
@@ -40,14 +39,11 @@ Concerns (Timed link) number s = (link ≡ number) ⊎ (order_at link s ≡ Some
 Concerns (BackTimeout link) number s = link ≡ number
 Concerns _ number s = ⊥
 
--- WHAT WAITS GAINS: messages ahead of the users' that wait, which are orders where the set's are the management's, and
--- others behind all.
-pub data Gains (managed : Type 0) : List Row → List Row → Type 0 where
-  behind : (old new more : List Row) → new ≡ old ++ more → Gains managed old new
-  passed : (order : Row) (old new : List Row) → is_users order ≡ false → Gains managed old new
-      → Gains managed (order ∷ old) (order ∷ new)
-  ahead : (order : Row) (old new : List Row) → (managed → is_users order ≡ false) → Gains managed old new
-      → Gains managed old (order ∷ new)
+-- WHAT WAITS GAINS: the management's messages ahead of the users' that wait, and others behind all.
+pub data Gains : List Row → List Row → Type 0 where
+  behind : (old new more : List Row) → new ≡ old ++ more → Gains old new
+  passed : (order : Row) (old new : List Row) → is_users order ≡ false → Gains old new → Gains (order ∷ old) (order ∷ new)
+  ahead : (order : Row) (old new : List Row) → is_users order ≡ false → Gains old new → Gains old (order ∷ new)
 
 -- nothing of the link changed, but that messages may have come: to wait for it if it's open, since it may be the target or
 -- an alternative, and else last to be held for it, which turned back from a changeback
@@ -55,7 +51,7 @@ pub record LeavesAlone (number : ℕ) (old new : State) : Type 0 where
   pub settings_same : new.settings ≡ old.settings
   pub link_same : slice_get new.links number ≡ slice_get old.links number
   pub unack_same : unack number new.rows ≡ unack number old.rows
-  pub waits : Gains (IsManaged old.settings) (wait number old.rows) (wait number new.rows)
+  pub waits : Gains (wait number old.rows) (wait number new.rows)
   pub none_waits : is_open number old ≡ false → wait number new.rows ≡ wait number old.rows
   pub later : List Row
   pub held_later : held number new.rows ≡ held number old.rows ++ later

@@ -1,17 +1,18 @@
 -- LAWS of the rows and of the step: of every state and every event.
 use Rattle.std.specs.Prelude.{◌≡◌, ℕ, ◌+◌, ◌-◌, ◌<◌, ◌≤◌, Bool, not, List, [], ◌++◌, length, map, drop, Option, Some, None, if◌then◌else◌, option_map}
 use Rattle.set_route.specs.Routing.{NoneOpen}
-use Rattle.set_model.specs.Rows.{Fate, Acked, Row, standing, is_unacked, is_on, unack, wait, held, on, parked, numbers, with_fate, turned, changed, moved, appended, put_ahead, row_of, place, body_at, IsNumbered}
+use Rattle.set_model.specs.Rows.{Fate, Acked, Row, standing, is_unacked, is_on, unack, wait, held, on, parked, numbers, with_fate, turned, changed, moved, appended, put_ahead, row_of, place, body_at, owner_at, IsNumbered}
 use Rattle.set_model.specs.State.{LinkState, State, given, target}
 use Rattle.set_model.specs.Changeover.{Upto, fate_on, reached_by, settled}
 use Rattle.set_model.specs.Sound.{IsSound, AreTogether, AreFew}
 
 -- THE ROWS.
 
--- no row was taken out or put in, none has another number or another body, and no number stands in two rows
+-- no row was taken out or put in, none has another number, another body or another owner, and no number stands in two rows
 pub record SameMessages (given : ℕ) (old new : List Row) : Type 0 where
   pub count : length new ≡ length old
   pub bodies : (number : ℕ) → body_at number new ≡ body_at number old
+  pub owners : (number : ℕ) → owner_at number new ≡ owner_at number old
   pub numbered : IsNumbered given new
 
 -- whichever rows change, to whatever places
@@ -21,12 +22,14 @@ pub record MessagesStay (test : Fate → Bool) (to : Fate) (fate : Row → Fate)
   pub moved_stay : SameMessages given rows (moved test fate rows)
   -- a new message leaves the others as they are, and is found under its number
   pub others_stay : (body : List ℕ) (number : ℕ) → number < given
-      → body_at number (appended given rows body to) ≡ body_at number rows
+      → (body_at number (appended given rows body to) ≡ body_at number rows)
+      × (owner_at number (appended given rows body to) ≡ owner_at number rows)
   pub new_found : (body : List ℕ) → body_at given (appended given rows body to) ≡ Some body
   pub appended_numbered : (body : List ℕ) → IsNumbered (given + 1) (appended given rows body to)
   -- also where it's put ahead of users' messages
   pub ahead_others_stay : (body : List ℕ) (number : ℕ) → number < given
-      → body_at number (put_ahead given rows body to) ≡ body_at number rows
+      → (body_at number (put_ahead given rows body to) ≡ body_at number rows)
+      × (owner_at number (put_ahead given rows body to) ≡ owner_at number rows)
   pub ahead_found : (body : List ℕ) → body_at given (put_ahead given rows body to) ≡ Some body
   pub ahead_numbered : (body : List ℕ) → IsNumbered (given + 1) (put_ahead given rows body to)
 
@@ -40,11 +43,12 @@ pub record MovesTheLinksRows (link : ℕ) (fate : Row → Fate) (rows : List Row
 
 -- THE STEP.
 
--- none was taken out, none that was there has another body, and no number stands in two rows
+-- none was taken out, none that was there has another body or another owner, and no number stands in two rows
 pub record KeepsMessages (old new : State) : Type 0 where
   pub count : length old.rows ≤ length new.rows
   pub gone : new.finished ≡ old.finished
   pub bodies : (number : ℕ) → number < given old → body_at number new.rows ≡ body_at number old.rows
+  pub owners : (number : ℕ) → number < given old → owner_at number new.rows ≡ owner_at number old.rows
   pub numbered : IsNumbered (given new) new.rows
 
 -- no changeback is under way, and the messages of each stream are together

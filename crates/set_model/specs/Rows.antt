@@ -11,10 +11,12 @@ use Rattle.set_route.specs.Routing.{home_of}
 pub use Rattle.set_events.specs.declared.answer.DiscardCause.{DiscardCause}
 pub use Rattle.set_events.specs.declared.answer.DiscardCause.TheVariants.{Emergency, NoAnswer, Unreasonable}
 
--- A message: the number under which it was accepted, its octets, and its fate, the one place where it stands.
+-- A message: the number under which it was accepted, its octets, whether it's a user's or the management's, and its fate,
+-- the one place where it stands.
 pub record Row : Type 0 where
   pub number : ℕ
   pub body : List ℕ
+  pub users : Bool
   pub fate : Fate
 
 -- Where a row stands: on one link.
@@ -85,9 +87,13 @@ stream_of body = slice_index body 4 / 16 % 16
 abbrev pub service_indicator : List ℕ → ℕ
 service_indicator body = slice_index body 0 % 16
 
--- a message of the users; the others, of service indicator 0, are the management's orders
+-- a body of service indicator 0 is the management's, and another a user's
+abbrev pub is_managements : List ℕ → Bool
+is_managements body = service_indicator body == 0
+
+-- a message of the users; the others are the management's orders
 abbrev pub is_users : Row → Bool
-is_users row = not (service_indicator row.body == 0)
+is_users row = row.users
 
 abbrev pub users : List Row → List Row
 users rows = filter is_users rows
@@ -99,7 +105,7 @@ unsent stream rows = filter (λ row. is_users row && ((stream_of row.body == str
 -- Rows that change.
 
 abbrev pub with_fate : Fate → Row → Row
-with_fate fate row = record { number = row.number; body = row.body; fate = fate }
+with_fate fate row = record row { fate = fate }
 
 -- the first n rows that stand where the test tells get the fate, in their places
 abbrev pub turned : (Fate → Bool) → Fate → ℕ → List Row → List Row
@@ -139,17 +145,18 @@ all_with fate row = fate
 
 -- a new message stands at the end, under this number
 abbrev pub appended : ℕ → List Row → List ℕ → Fate → List Row
-appended number rows body fate = rows ++ record { number = number; body = body; fate = fate } ∷ []
+appended number rows body fate =
+    rows ++ record { number = number; body = body; users = not (is_managements body); fate = fate } ∷ []
 
--- or before the first of the users' messages in its place, and at the end where there is none
+-- or, the management's, before the first of the users' messages in its place, and at the end where there is none
 abbrev pub is_users_at : Fate → Row → Bool
 is_users_at fate row = is_users row && same_fate row.fate fate
 
 abbrev pub put_ahead : ℕ → List Row → List ℕ → Fate → List Row
-put_ahead number [] body fate = record { number = number; body = body; fate = fate } ∷ []
+put_ahead number [] body fate = record { number = number; body = body; users = false; fate = fate } ∷ []
 put_ahead number (row ∷ rows) body fate =
     if is_users_at fate row
-    then record { number = number; body = body; fate = fate } ∷ row ∷ rows
+    then record { number = number; body = body; users = false; fate = fate } ∷ row ∷ rows
     else row ∷ put_ahead number rows body fate
 
 -- What the readers tell.
@@ -163,6 +170,10 @@ place number rows = option_map (λ row. row.fate) (row_of number rows)
 
 abbrev pub body_at : ℕ → List Row → Option (List ℕ)
 body_at number rows = option_map (λ row. row.body) (row_of number rows)
+
+-- and whether it's a user's
+abbrev pub owner_at : ℕ → List Row → Option Bool
+owner_at number rows = option_map is_users (row_of number rows)
 
 -- how many of the users' messages stand in each place
 abbrev pub counts_of : List Row → Counts
@@ -194,6 +205,10 @@ Each fact (x ∷ xs) = fact x × Each fact xs
 -- no body is longer than a unit's
 abbrev pub AreFit : Profile → List Row → Type 0
 AreFit profile rows = Each (λ row. length row.body ≤ longest_body profile) rows
+
+-- whose each message is, its body tells
+abbrev pub AreMarked : List Row → Type 0
+AreMarked rows = Each (λ row. is_users row ≡ not (is_managements row.body)) rows
 
 -- no row that stands where the first test tells stands behind one that stands where the other does
 abbrev pub AreBefore : (Fate → Bool) → (Fate → Bool) → List Row → Type 0

@@ -3,7 +3,7 @@ use Rattle.std.specs.Prelude.{◌≡◌, ◌≢◌, ℕ, Bool, true, false, not,
 use Rattle.set_events.specs.declared.event.Event.{Event}
 use Rattle.set_events.specs.declared.event.Event.TheVariants.{Restore}
 use Rattle.set_route.specs.Routing.{Routing, IsRouting, home_of, code_of, via_of, owed_under, place_of, has_messages, most_links}
-use Rattle.set_model.specs.Rows.{Fate, Back, Row, was_acked, was_discarded, is_on, is_back, is_parked, is_users, users, stream_of, unack, held, on, back, parked, numbers, Each, IsNumbered, AreFit, IsInOrder, IsHeldLast}
+use Rattle.set_model.specs.Rows.{Fate, Back, Row, was_acked, was_discarded, is_on, is_back, is_parked, is_users, users, stream_of, unack, held, on, back, parked, numbers, Each, IsNumbered, AreFit, AreMarked, IsInOrder, IsHeldLast}
 use Rattle.set_model.specs.Control.{Method, BasicMethod, CyclicMethod, Control, Basic, Cyclic, expected_of}
 use Rattle.set_model.specs.State.{Place, On, Changing, Nowhere, Code, LinkState, State, Settings, given, link_is_open, open_link, carries, has_phase_up, has_phase_settled}
 use Rattle.l2_window.specs.Window.{fsn_count, most_unacked}
@@ -124,6 +124,7 @@ pub record IsSound (s : State) : Type 0 where
   -- each row has a number of its own, below how many were given out
   pub numbered : IsNumbered (given s) s.rows
   pub fit : AreFit s.settings.profile s.rows
+  pub marked : AreMarked s.rows
   pub links : (number : ℕ) (link : LinkState) → slice_get s.links number ≡ Some link
       → IsSoundLink s.settings number link s.rows
   pub placed : (stream : ℕ) → stream < 16 → IsPlaced s.links (place_of stream s.routing)

@@ -1,5 +1,5 @@
 -- THE STEP OF A SET: what it answers to an event, and what it holds then.
-use Rattle.std.specs.Prelude.{◌≡◌, ◌≤◌, ℕ, Bool, true, false, ◌==◌, ◌&&◌, ◌+◌, nat_lt, nat_le, List, [], ◌∷◌, ◌++◌, length, slice_get, Option, Some, None, slice_set, if◌then◌else◌}
+use Rattle.std.specs.Prelude.{◌≡◌, ◌≤◌, ℕ, Bool, true, false, ◌&&◌, ◌+◌, nat_lt, nat_le, List, [], ◌∷◌, ◌++◌, length, slice_get, Option, Some, None, slice_set, if◌then◌else◌}
 pub use Rattle.l2_units.specs.declared.unit.Unit.{Unit as SignalUnit}
 pub use Rattle.l2_units.specs.declared.unit.Unit.TheVariants.{Fisu, Lssu, Msu}
 use Rattle.l2_units.specs.declared.profile.Profile.{Profile}
@@ -17,7 +17,7 @@ pub use Rattle.set_events.specs.declared.answer.Answer.TheVariants.{Accepted, Ta
 pub use Rattle.set_events.specs.declared.event.Event.{Event}
 pub use Rattle.set_events.specs.declared.event.Event.TheVariants.{Offer, Take, Find, Next, Heard, Up as UpEvent, Down as DownEvent, DownBlind, NoAnswer, Timed, Restore, Redeclare, BackTimeout, Test}
 use Rattle.set_route.specs.Routing.{place_of, code_for, accepted, raised}
-use Rattle.set_model.specs.Rows.{Fate, Waiting, Parked, Unacked, Acked, Row, all_with, unack, wait, is_unacked, is_waiting, is_parked, octets_in, unsent, stream_of, service_indicator, turned, moved, appended, place, counts_of, total_of}
+use Rattle.set_model.specs.Rows.{Fate, Waiting, Parked, Unacked, Acked, Row, all_with, unack, wait, is_unacked, is_waiting, is_parked, octets_in, unsent, stream_of, is_managements, turned, moved, appended, place, counts_of, total_of}
 use Rattle.set_model.specs.State.{Phase, Up, Down, Settled, LinkState, State, given, open_link, with_link, link_count, late_at, has_phase_up, fate_at, window_of}
 use Rattle.set_model.specs.Control.{Header, Method, HeardPart, Choice, again, first, fill, start_of, choice_of, fsn_of, head_of, control_after, part_of, control_heard}
 use Rattle.set_model.specs.Changeover.{Unanswered, Unasked, taken_back, Obeyed, cleared, left_by, leaving_order, queued, settled, declared_from, some_declare, redeclared_from, some_overdue, released_from, some_in_use, obeyed}
@@ -36,7 +36,7 @@ abbrev pub refusal_by : Profile → ℕ → List ℕ → Option SetRefusal
 refusal_by profile unsent body =
     if nat_lt (length body) 5 then Some TooShort
     else (if nat_lt (longest_body profile) (length body) then Some TooLong
-    else (if service_indicator body == 0 then Some Reserved
+    else (if is_managements body then Some Reserved
     else (if nat_le 1024 unsent then Some StreamFull
     else None)))
 
@@ -124,7 +124,7 @@ brought accept _ = None
 abbrev pub takes : Option (List ℕ) → State → Obeyed
 takes None s = record { took = NothingTaken; state = s }
 takes (Some body) s =
-    if service_indicator body == 0
+    if is_managements body
     then obeyed (order_of s.settings.profile body) s
     else record { took = Message; state = record s { inbox = s.inbox ++ body ∷ [] } }
 

@@ -62,7 +62,7 @@ rows_moved test fate rows e =
     (rows_fated fate (standing test rows) (each_filter Is Is (λ row. test row.fate) (λ x h is. is) rows e))
 
 rows_appended : (number : ℕ) (rows : List Row) (body : List ℕ) (fate : Fate) → AreBodies rows → IsBody body → AreBodies (appended number rows body fate)
-rows_appended number rows body fate e is = each_append Is rows (record { number = number; body = body; fate = fate } ∷ []) e (is, tt)
+rows_appended number rows body fate e is = each_append Is rows _ e (is, tt)
 
 -- AN ORDER'S TEXT.
 abbrev Fits : ℕ → Type 0

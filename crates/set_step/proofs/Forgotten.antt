@@ -30,17 +30,17 @@ final_is fate = grind arith
 -- THE SLOT OF A NUMBER and its row, if they stay
 record StaysAs (slot : Option Message) (octets : Option (List ℕ)) (row : Option Row) : Type 0 where
   pub fate : option_map (λ (m : Message). m.fate) (kept_slot slot) ≡ option_map (λ (r : Row). r.fate) (stays row)
-  pub label : option_map label_in (kept_slot slot) ≡ option_map label_of (option_map (λ (r : Row). r.body) (stays row))
+  pub label : option_map label_in (kept_slot slot) ≡ option_map label_of (stays row)
   pub body : cond (is_unfinished slot) octets None ≡ option_map (λ (r : Row). r.body) (stays row)
 
-stays_as : (slot : Option Message) (body : Option (List ℕ)) (row : Option Row) → option_map (λ (m : Message). m.fate) slot ≡ option_map (λ (r : Row). r.fate) row → option_map label_in slot ≡ option_map label_of (option_map (λ (r : Row). r.body) row) → body ≡ option_map (λ (r : Row). r.body) row → StaysAs slot body row
+stays_as : (slot : Option Message) (body : Option (List ℕ)) (row : Option Row) → option_map (λ (m : Message). m.fate) slot ≡ option_map (λ (r : Row). r.fate) row → option_map label_in slot ≡ option_map label_of row → body ≡ option_map (λ (r : Row). r.body) row → StaysAs slot body row
 stays_as None body None f l b = record { fate = refl; label = refl; body = refl }
 stays_as None body (Some r) f l b = absurd (cc)
 stays_as (Some m) body None f l b = absurd (cc)
 stays_as (Some m) body (Some r) f l b = let is = final_is m.fate in grind arith
 
 -- HOW MANY LEAVE
-orders_ended : (rows : List Row) → length (filter (λ (r : Row). not (is_users (kind_of r.body)) && not (is_standing r.fate)) rows) ≡ length (filter (λ (r : Row). not (is_users_row r) && not (is_unfinished_fate r.fate)) rows)
+orders_ended : (rows : List Row) → length (filter (λ (r : Row). not (is_users (kind_of r)) && not (is_standing r.fate)) rows) ≡ length (filter (λ (r : Row). not (is_users_row r) && not (is_unfinished_fate r.fate)) rows)
 orders_ended [] = refl
 orders_ended (x ∷ rows) = let is = final_is x.fate in grind (arith, orders_ended rows)
 
@@ -74,7 +74,7 @@ module _ (k : Kept) (s : State) (a : Agrees k s) where
   stands = record {
     queues = λ fate t. a.stands.stands.queues fate t ∙ ap numbers (sym (stand_still (is_fate fate) (λ f e. let is = same_is f fate t e in rw is (sym (final_is fate) ∙ t)) s.rows));
     fates = λ number. ap (option_map (λ (m : Message). m.fate)) (slot_map kept_slot refl k.messages number) ∙ (staying number).fate ∙ sym (ap (option_map (λ (r : Row). r.fate)) (row_is number));
-    labels = λ number. ap (option_map label_in) (slot_map kept_slot refl k.messages number) ∙ (staying number).label ∙ sym (ap (λ (o : Option Row). option_map label_of (option_map (λ (r : Row). r.body) o)) (row_is number));
+    labels = λ number. ap (option_map label_in) (slot_map kept_slot refl k.messages number) ∙ (staying number).label ∙ sym (ap (option_map label_of) (row_is number));
     numbered = subst (λ (n : ℕ). IsNumbered n (unfinished s.rows)) (sym many) ((checkpoints s).sound a.sound).numbered;
   }
 

@@ -47,15 +47,15 @@ as_many p r (m ∷ ms) k given rows numbered count same =
 
 -- by label and fate, as a message has them and its row
 module _ (f : Label → Fate → Bool) (p : Option Message → Bool) (none : p None ≡ false) (by : (m : Message) → p (Some m) ≡ f (label_in m) m.fate) where
-  by_label : (o : Option Message) (d : Option Row) → option_map (λ (m : Message). m.fate) o ≡ option_map (λ (r : Row). r.fate) d → option_map label_in o ≡ option_map label_of (option_map (λ (r : Row). r.body) d) → p o ≡ picked (λ (r : Row). f (label_of r.body) r.fate) d
+  by_label : (o : Option Message) (d : Option Row) → option_map (λ (m : Message). m.fate) o ≡ option_map (λ (r : Row). r.fate) d → option_map label_in o ≡ option_map label_of d → p o ≡ picked (λ (r : Row). f (label_of r) r.fate) d
   by_label None None e g = none
   by_label None (Some r) e g = absurd (cc)
   by_label (Some m) None e g = absurd (cc)
   by_label (Some m) (Some r) e g = let is = by m in grind arith
 
-  pub counted : (q : Lists) (ms : List (Option Message)) (rows : List Row) → Stands q ms rows → length (filter p ms) ≡ length (filter (λ (r : Row). f (label_of r.body) r.fate) rows)
+  pub counted : (q : Lists) (ms : List (Option Message)) (rows : List Row) → Stands q ms rows → length (filter p ms) ≡ length (filter (λ (r : Row). f (label_of r) r.fate) rows)
   counted q ms rows s =
-      as_many p (λ (r : Row). f (label_of r.body) r.fate) ms 0 (length ms) rows s.numbered (omega arith) (λ i n e. rw (e, zero-add) (by_label (slot_at i ms) (row_of i rows) (s.fates i) (s.labels i)))
+      as_many p (λ (r : Row). f (label_of r) r.fate) ms 0 (length ms) rows s.numbered (omega arith) (λ i n e. rw (e, zero-add) (by_label (slot_at i ms) (row_of i rows) (s.fates i) (s.labels i)))
       ∙ ap length (filter_agree _ _ (λ row. grind (arith, nat_tests)) rows)
 
 -- THE UNSENT MESSAGES of a stream
@@ -63,7 +63,7 @@ pub unsent_is : (stream : ℕ) (q : Lists) (ms : List (Option Message)) (rows : 
 unsent_is stream q ms rows s = counted (λ l fate. is_of stream l.kind && is_unsent fate) (is_queued stream) refl (λ m. refl) q ms rows s ∙ ap length (filter_agree _ _ (λ row. grind arith) rows)
 
 -- THE USERS' MESSAGES of one place
-pub users_there : (test : Fate → Bool) (rows : List Row) → length (filter (λ (r : Row). is_users (kind_of r.body) && test r.fate) rows) ≡ length (standing test (users rows))
+pub users_there : (test : Fate → Bool) (rows : List Row) → length (filter (λ (r : Row). is_users (kind_of r) && test r.fate) rows) ≡ length (standing test (users rows))
 users_there test [] = refl
 users_there test (x ∷ rows) = grind (arith, users_there test rows)
 

@@ -116,6 +116,7 @@ module _ (l : ℕ) (s : State) (sound : IsSound s) (e : is_settled l s ≡ true)
     count = length_set s.links l (dormant s.settings) ∙ sound.count;
     numbered = sound.numbered;
     fit = sound.fit;
+    marked = sound.marked;
     links = each;
     placed = λ stream few. placed (place_of stream s.routing) (sound.placed stream few);
     none_aside = λ n link found is. sound.none_aside n link (was_open n link found is (n == l) refl) is;
