@@ -37,6 +37,7 @@ mod decoding;
 mod digit;
 mod digits;
 mod fault;
+mod fill_in_line;
 mod marked_line;
 mod text;
 mod unit_line;

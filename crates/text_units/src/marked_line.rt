@@ -1,13 +1,12 @@
 //! The bits of a line, and the lines of their marks.
 ghost use Rattle.l2_bits.specs.declared.marks.Mark.{Mark};
-ghost use Rattle.l2_bits.specs.Deframing.{marked, left_in, unit_of};
-ghost use Rattle.std.specs.Prelude.{◌≡◌, ℕ, ◌+◌, ◌<◌, ◌^◌, List, [], ◌∷◌, ◌++◌, length, if◌then◌else◌, IfOk, MatchResult, true, false};
-ghost use Rattle.std.specs.Result.{is_ok};
+ghost use Rattle.l2_bits.specs.Deframing.{marked, left_in};
+ghost use Rattle.std.specs.Prelude.{◌≡◌, ℕ, ◌+◌, ◌<◌, ◌^◌, List, [], ◌∷◌, ◌++◌, length, IfOk, MatchResult, true, false};
 ghost use Rattle.l2_bits.specs.LineBits.{line_bits};
-ghost use Rattle.text_units.specs.UnitsText.{counts_of, mark_text};
+ghost use Rattle.text_units.specs.UnitsText.{counts_of};
 ghost use Rattle.text_units.specs.UnitsReading.{IsLine, Feeds, FeedsFirst, Breaks};
 
-use super::unit_lines::{MarkCounts, push_mark};
+use super::unit_lines::{MarkCounts, add_mark};
 use l2_bits::{Deframer, MarkKind, Octets};
 use std::alloc::{AllocError, Global};
 
@@ -15,7 +14,7 @@ use std::alloc::{AllocError, Global};
 #[derive(Drop)]
 pub(crate) struct MarkedLine {
     deframer: Deframer,
-    /// The printed line of a mark, before it's added whole; its memory is kept for the next.
+    /// The printed line of a mark that is made of pieces, before it's added whole; its memory is kept for the next.
     text: Vec<u8>,
     pub(crate) counts: MarkCounts,
 }
@@ -62,25 +61,9 @@ impl MarkedLine {
             return Ok(false);
         };
         self.counts = counted(self.counts, kind);
-        add_line(kind, &self.deframer, &mut self.text, out)?;
+        add_mark(kind, self.deframer.unit(), &mut self.text, out)?;
         Ok(true)
     }
-}
-
-/// Adds the line of a mark of this kind; where memory is wanted, nothing.
-fn add_line(
-    kind: MarkKind,
-    deframer: &Deframer,
-    text: &mut Vec<u8>,
-    out: &mut Vec<u8>,
-) -> Result<(), AllocError>
-    ensures { out.new.items
-        ≡ out.old.items
-        ++ (if is_ok result then mark_text (marked kind (unit_of deframer.now)) else []) }
-{
-    text.clear();
-    push_mark(kind, deframer.unit(), text)?;
-    out.extend_from_slice(text)
 }
 
 /// One mark more. An input of the program has too few for a count to end at its type's last number.

@@ -1,5 +1,6 @@
 //! The lines that `units` prints.
-ghost use Rattle.std.specs.Prelude.{◌≡◌, ◌++◌, IfOk, OnOk, codes, decimal};
+ghost use Rattle.std.specs.Prelude.{◌≡◌, ◌++◌, [], length, if◌then◌else◌, IfOk, OnOk, codes, decimal};
+ghost use Rattle.std.specs.Result.{is_ok};
 ghost use Rattle.l2_bits.specs.Deframing.{marked};
 ghost use Rattle.l2_units.specs.Grammar.{unit_of, unit_with};
 ghost use Rattle.l2_units.specs.declared.unit.Unit.TheVariants.{Lssu, Msu};
@@ -7,6 +8,7 @@ ghost use Rattle.text_base.specs.Figures.{bit};
 ghost use Rattle.l2_units.specs.declared.profile.Profile.TheVariants.{Narrow};
 ghost use Rattle.text_units.specs.UnitsText.{InputHasOneText, good_text, line_head, mark_text, unit_text, unit_words, counts_text};
 
+use super::fill_in_line::add_fill_in;
 use l2_bits::MarkKind;
 use l2_units::{Header, Status, Unit, parts_of};
 use std::alloc::{AllocError, Global};
@@ -20,15 +22,42 @@ pub(crate) struct MarkCounts {
     pub(crate) sixteen: u64,
 }
 
-/// Adds the line of a mark of this kind; a good unit has these octets.
-pub(crate) fn push_mark(kind: MarkKind, octets: &[u8], text: &mut Vec<u8>) -> Result<(), AllocError>
-    ensures { OnOk result (text.new.items ≡ text.old.items ++ mark_text (marked kind octets.now)) }
+/// Adds the line of a mark of this kind, or nothing where memory is wanted; a good unit has these octets. Where a line is
+/// made of pieces it's made in `text` first, whose memory is kept for the next.
+pub(crate) fn add_mark(
+    kind: MarkKind,
+    octets: &[u8],
+    text: &mut Vec<u8>,
+    out: &mut Vec<u8>,
+) -> Result<(), AllocError>
+    ensures { out.new.items ≡ out.old.items ++ (if is_ok result then mark_text (marked kind octets.now) else []) }
 {
     match kind {
-        MarkKind::Good => push_good(octets, text),
-        MarkKind::Bad => text.extend_from_slice(b"bad\n"),
-        MarkKind::Sixteen => text.extend_from_slice(b"sixteen\n"),
+        MarkKind::Good => add_good(octets, text, out),
+        MarkKind::Bad => out.extend_from_slice(b"bad\n"),
+        MarkKind::Sixteen => out.extend_from_slice(b"sixteen\n"),
     }
+}
+
+/// Adds the line of octets that check, or nothing: their unit, or what is wrong with them.
+fn add_good(octets: &[u8], text: &mut Vec<u8>, out: &mut Vec<u8>) -> Result<(), AllocError>
+    ensures { out.new.items ≡ out.old.items
+        ++ (if is_ok result then good_text (unit_of Narrow octets.now) octets.now else []) }
+{
+    match parts_of(octets) {
+        Ok((head, [])) => add_fill_in(head, out),
+        _ => add_pieces(octets, text, out),
+    }
+}
+
+/// [`add_good`] of octets whose line is made of pieces.
+fn add_pieces(octets: &[u8], text: &mut Vec<u8>, out: &mut Vec<u8>) -> Result<(), AllocError>
+    ensures { out.new.items ≡ out.old.items
+        ++ (if is_ok result then good_text (unit_of Narrow octets.now) octets.now else []) }
+{
+    text.clear();
+    push_good(octets, text)?;
+    out.extend_from_slice(text)
 }
 
 /// Adds the line of octets that check: their unit, or what is wrong with them.
@@ -115,8 +144,9 @@ fn push_head(kind: &[u8], head: Header, text: &mut Vec<u8>) -> Result<(), AllocE
 
 /// The words of a BIB, and the one before an FSN.
 #[inline(always)]
-fn bib_words(bib: bool) -> &'static [u8]
-    ensures { result.now ≡ codes " bib=" ++ (decimal (bit bib) ++ codes " fsn=") }
+pub(crate) fn bib_words(bib: bool) -> &'static [u8]
+    ensures size { length result.now ≡ 11 }
+    ensures value { result.now ≡ codes " bib=" ++ (decimal (bit bib) ++ codes " fsn=") }
 {
     if bib { b" bib=1 fsn=" } else { b" bib=0 fsn=" }
 }

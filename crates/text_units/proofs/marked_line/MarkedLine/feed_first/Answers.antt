@@ -15,10 +15,10 @@ returns-clause-feeds c =
     let octets = unit_of c.feed_octets.new.self in
     let mark = marked c.in-Some.kind octets in
     first_fed c.args.self.now _ (left_in c.args.left.now) (left_in c.feed_octets.new.octets) (Some mark) c.in-Some.ensures.marks
-    (λ marks fits same. c.counted-self.ensures marks octets fits same) c.args.out.now.items c.add_line.new.out.items
-    (c.in_ok-add_line.ensures ∙ ap (λ (text : List ℕ). c.args.out.now.items ++ text) (sym (append-nil (mark_text mark))))
+    (λ marks fits same. c.counted-self.ensures marks octets fits same) c.args.out.now.items c.add_mark.new.out.items
+    (c.in_ok-add_mark.ensures ∙ ap (λ (unit : List ℕ). c.args.out.now.items ++ mark_text (marked c.in-Some.kind unit)) c.unit.ensures ∙ ap (λ (text : List ℕ). c.args.out.now.items ++ text) (sym (append-nil (mark_text mark))))
 
-pub returns-in_err-add_line-clause-feeds : goal.returns-in_err-add_line-clause-feeds
-returns-in_err-add_line-clause-feeds c =
-    rw (passed_on c.from_residual.result c.in_err-add_line.field-0.0 c.from_residual.ensures.1)
-    (breaks_at c.args.self.now (left_in c.args.left.now) c.args.out.now.items c.add_line.new.out.items c.in_err-add_line.ensures)
+pub returns-in_err-add_mark-clause-feeds : goal.returns-in_err-add_mark-clause-feeds
+returns-in_err-add_mark-clause-feeds c =
+    rw (passed_on c.from_residual.result c.in_err-add_mark.field-0.0 c.from_residual.ensures.1)
+    (breaks_at c.args.self.now (left_in c.args.left.now) c.args.out.now.items c.add_mark.new.out.items c.in_err-add_mark.ensures)
