@@ -164,6 +164,13 @@ struct mtpbank_heard {
 	size_t messages; /*!< in the turns of how many of them messages for users were heard */
 };
 
+/*! What an octet did that was heard. */
+struct mtpbank_turned {
+	size_t unit;     /*!< how many octets the unit has that was appended to what is sent; 0: none was */
+	uint8_t put;     /*!< the octet that goes out */
+	uint8_t message; /*!< 1 where a message for users was heard, else 0 */
+};
+
 /*! How a link stands. The counts are since the opening. */
 struct mtpbank_look {
 	uint64_t turns;    /*!< octet times */
@@ -183,6 +190,12 @@ struct mtpbank_found {
 	uint8_t detail; /*!< a link, code or cause, as beside each place; else 0 */
 };
 
+/*! How much a text of the history is. */
+struct mtpbank_told {
+	size_t octets; /*!< how many octets it has */
+	size_t lines;  /*!< how many lines, each ended by LF */
+};
+
 /*! An end that is open: its address. */
 typedef struct {
 	void *at;
@@ -194,11 +207,16 @@ MTPBANK_ASSERT(sizeof(struct mtpbank_set) == 16, "mtpbank_set");
 MTPBANK_ASSERT(sizeof(struct mtpbank_timers) == 24, "mtpbank_timers");
 MTPBANK_ASSERT(sizeof(struct mtpbank_times) == 28, "mtpbank_times");
 MTPBANK_ASSERT(sizeof(struct mtpbank_heard) == 16, "mtpbank_heard");
+MTPBANK_ASSERT(sizeof(struct mtpbank_turned) == 16, "mtpbank_turned");
 MTPBANK_ASSERT(sizeof(struct mtpbank_look) == 48, "mtpbank_look");
 MTPBANK_ASSERT(sizeof(struct mtpbank_found) == 2, "mtpbank_found");
+MTPBANK_ASSERT(sizeof(struct mtpbank_told) == 16, "mtpbank_told");
 
 /*! The longest message, SIO and SIF. */
 #define MTPBANK_LONGEST 273
+
+/*! The longest unit, without check octets and flags. */
+#define MTPBANK_LONGEST_UNIT 276
 
 /*! Opens an end, whose links are out of service and not activated.
  *  \param[in] set the set of links
@@ -242,6 +260,19 @@ int32_t mtpbank_command(mtpbank_end *end, uint8_t link, uint8_t number);
 int32_t mtpbank_hear(mtpbank_end *end, uint8_t link, const uint8_t *octets, size_t length, uint8_t *put, size_t room,
 		     struct mtpbank_heard *heard);
 
+/*! One octet came on a link's line: mtpbank_hear of it, which tells too the unit that is appended in its turn to what is
+ *  sent, if one is. So a capture is made of what an end sends: of each call whose turned->unit isn't 0, the first so many
+ *  octets of unit.
+ *  \param[in] octet what came
+ *  \param[out] unit the unit at its front, from BSN and BIB up to what is before the check octets, no other octet; as it
+ *              was where the code isn't MTPBANK_OK
+ *  \param[in] room at least MTPBANK_LONGEST_UNIT
+ *  \param[out] turned as it was where the code isn't MTPBANK_OK
+ *  \returns MTPBANK_OK; in this order MTPBANK_NO_SUCH_LINK, and MTPBANK_NO_ROOM where room < MTPBANK_LONGEST_UNIT: nothing
+ *           is done then; MTPBANK_NO_MEMORY, MTPBANK_EXHAUSTED or MTPBANK_FAILED as of mtpbank_hear */
+int32_t mtpbank_turn(mtpbank_end *end, uint8_t link, uint8_t octet, uint8_t *unit, size_t room,
+		     struct mtpbank_turned *turned);
+
 /*! How a link stands.
  *  \param[out] look as it was where the code isn't MTPBANK_OK
  *  \returns MTPBANK_OK; MTPBANK_NO_SUCH_LINK */
@@ -268,6 +299,16 @@ int32_t mtpbank_take(mtpbank_end *end, uint16_t user, uint8_t *put, size_t room,
  *  \param[out] found as it was where the code isn't MTPBANK_OK
  *  \returns MTPBANK_OK; MTPBANK_NO_SUCH_USER, MTPBANK_UNKNOWN_NUMBER, MTPBANK_FINISHED, MTPBANK_NO_MEMORY, MTPBANK_EXHAUSTED */
 int32_t mtpbank_find(mtpbank_end *end, uint16_t user, uint64_t number, struct mtpbank_found *found);
+
+/*! The text of the history since the last checkpoint, from a line on: line 0 tells what the end was opened with, and each
+ *  other line is an entry. MTPBANK_AUDIT reads it. Where an end takes checkpoints, what it's to read is the text from line
+ *  0 on before the first one, a line "checkpoint", the text from line 1 on before the second one, and so forth.
+ *  \param[in] from how many lines are passed over; where that is all, the text has no octet
+ *  \param[out] put the text at its front, no other octet; as it was where the code isn't MTPBANK_OK
+ *  \param[out] told how much the text is, also where it's MTPBANK_NO_ROOM; else as it was
+ *  \returns MTPBANK_OK; MTPBANK_NO_MEMORY; MTPBANK_NO_ROOM where room < told->octets: nothing is put. The end stays as it
+ *           is */
+int32_t mtpbank_history(mtpbank_end *end, size_t from, uint8_t *put, size_t room, struct mtpbank_told *told);
 
 /*! The history begins anew. The library keeps an entry for each event and each unit, some 20 kB a second for an idle link of
  *  64 kbit/s: call this now and then, as once a second.

@@ -14,7 +14,7 @@
 
 enum { ENDS = 4, LINKS = 16, PAGES = 32, BEFORE = 64, MARK = 0xa5, CODES = 64 };
 
-static uint64_t state, calls, octets, refused, taken, told, blocks, by_code[CODES];
+static uint64_t state, calls, octets, refused, taken, told, histories, audited, blocks, by_code[CODES];
 static const char *doing = "nothing";
 static uint64_t refuse_at;
 
@@ -125,7 +125,7 @@ static void is_kept(const struct buffer *buffer, size_t but)
 /* An end, and what is known of it. */
 struct known {
 	mtpbank_end end;
-	bool is_open, is_broken[LINKS];
+	bool is_open, is_checkpointed, is_broken[LINKS];
 	uint8_t links, activated[LINKS];
 	uint64_t turns[LINKS], offered;
 	uint8_t put[LINKS][512];
@@ -311,6 +311,91 @@ static void hear(struct known *it, uint8_t link)
 	memcpy(it->put[link], output.at, it->put_length[link]);
 }
 
+static void turn(struct known *it, uint8_t link)
+{
+	struct mtpbank_turned turned, was;
+	uint8_t octet;
+	lay(&input, 1);
+	fill(link);
+	octet = input.at[0];
+	memset(&turned, MARK, sizeof turned);
+	was = turned;
+	lay(&output, below(8) ? MTPBANK_LONGEST_UNIT + below(3) : below(MTPBANK_LONGEST_UNIT));
+	int32_t code = answered(mtpbank_turn(&it->end, link, octet, output.at, output.length, &turned));
+	is_kept(&output, code == MTPBANK_OK ? turned.unit : 0);
+	NEED(code == MTPBANK_OK || !memcmp(&turned, &was, sizeof turned));
+	if (link >= it->links) {
+		NEED(code == MTPBANK_NO_SUCH_LINK);
+		return;
+	}
+	if (output.length < MTPBANK_LONGEST_UNIT) {
+		NEED(code == MTPBANK_NO_ROOM);
+		return;
+	}
+	NEED(code == MTPBANK_OK || is_want(code) || code == MTPBANK_FAILED);
+	NEED(!it->is_broken[link] || code == MTPBANK_FAILED);
+	it->is_broken[link] |= code == MTPBANK_FAILED;
+	if (code != MTPBANK_OK)
+		return;
+	octets++;
+	it->turns[link]++;
+	it->put[link][0] = turned.put;
+	it->put_length[link] = 1;
+	NEED(turned.message <= 1 && turned.unit <= MTPBANK_LONGEST_UNIT);
+	if (turned.unit) { /* the length indicator tells how many octets there are behind it (Q.703 2.3.3) */
+		NEED(turned.unit >= 3);
+		size_t behind = turned.unit - 3;
+		NEED(output.at[2] == (behind < 63 ? behind : 63));
+	}
+}
+
+/* The text of a history, from a line on: of so many lines, and legal where it's the whole of an end's. */
+static void history(struct known *it, size_t from)
+{
+	static uint8_t whole[PAGES * 4096 - BEFORE];
+	struct mtpbank_told told = { 777, 777 }, again = { 777, 777 };
+	struct mtpbank_lengths lengths = { 777, 777 };
+	size_t lines_seen = 0;
+	lay(&output, below(2) ? 120000 : below(4000));
+	int32_t code = answered(mtpbank_history(&it->end, from, output.at, output.length, &told));
+	is_kept(&output, code == MTPBANK_OK ? told.octets : 0);
+	NEED(code == MTPBANK_OK || code == MTPBANK_NO_ROOM || code == MTPBANK_NO_MEMORY);
+	if (code == MTPBANK_NO_MEMORY) {
+		NEED(told.octets == 777 && told.lines == 777);
+		return;
+	}
+	NEED((told.octets <= output.length) == (code == MTPBANK_OK));
+	if (told.octets > sizeof whole)
+		return;
+	refuse_at = 0;
+	lay(&output, told.octets);
+	code = mtpbank_history(&it->end, from, output.at, output.length, &again);
+	NEED(code == MTPBANK_OK && !memcmp(&again, &told, sizeof again));
+	is_kept(&output, told.octets);
+	for (size_t n = 0; n < told.octets; n++)
+		lines_seen += output.at[n] == '\n';
+	NEED(lines_seen == told.lines && (!told.octets || output.at[told.octets - 1] == '\n'));
+	NEED(from ? told.lines || !told.octets : told.lines && !memcmp(output.at, "set links=", 10));
+	histories++;
+	if (from || it->is_checkpointed)
+		return;
+	memcpy(whole, output.at, told.octets);
+	lay(&lines, 200);
+	lay(&output, 200);
+	code = mtpbank_text(MTPBANK_AUDIT, whole, told.octets, output.at, 200, lines.at, 200, &lengths);
+	NEED(code == MTPBANK_OK && lengths.printed && !lengths.told && !memcmp(output.at, "legal", 5));
+	audited++;
+}
+
+static void checkpoint(struct known *it)
+{
+	if (!it->is_checkpointed)
+		history(it, 0);
+	int32_t code = answered(mtpbank_checkpoint(&it->end));
+	NEED(code == MTPBANK_OK || code == MTPBANK_NO_MEMORY);
+	it->is_checkpointed |= code == MTPBANK_OK;
+}
+
 static void look(struct known *it, uint8_t link)
 {
 	struct mtpbank_look look, was;
@@ -469,7 +554,7 @@ static void call(int count, char **names)
 		break;
 	case 11:
 		doing = "checkpoint";
-		NEED(answered(mtpbank_checkpoint(&it->end)) % MTPBANK_NO_MEMORY == 0);
+		checkpoint(it);
 		break;
 	case 12:
 		doing = "talk";
@@ -484,6 +569,16 @@ static void call(int count, char **names)
 		open_end(&passing);
 		if (passing.is_open)
 			close_end(&passing);
+		break;
+	case 15:
+		doing = "history";
+		history(it, below(2) ? 0 : below(4) ? below(200) : any());
+		break;
+	case 16:
+	case 17:
+	case 18:
+		doing = "turn";
+		turn(it, link);
 		break;
 	case 100:
 		doing = "close";
@@ -512,8 +607,9 @@ int main(int count, char **words)
 			close_end(&ends[n]);
 	doing = "the end";
 	NEED(blocks == 0);
-	printf("calls=%llu octets=%llu refused=%llu taken=%llu texts=%llu codes=", (unsigned long long)calls,
-	       (unsigned long long)octets, (unsigned long long)refused, (unsigned long long)taken, (unsigned long long)told);
+	printf("calls=%llu octets=%llu refused=%llu taken=%llu texts=%llu histories=%llu audited=%llu codes=",
+	       (unsigned long long)calls, (unsigned long long)octets, (unsigned long long)refused, (unsigned long long)taken,
+	       (unsigned long long)told, (unsigned long long)histories, (unsigned long long)audited);
 	for (int n = 0, any_code = 0; n < CODES; n++)
 		if (by_code[n])
 			printf("%s%d", any_code++ ? "," : "", n);

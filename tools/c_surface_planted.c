@@ -81,3 +81,21 @@ RIGHT(int32_t, text, uint8_t subcommand, const uint8_t *input, size_t length, ui
 		printed[0] ^= 1;
 	return code;
 }
+
+/* 15: a unit is told one octet longer than it is. */
+RIGHT(int32_t, turn, mtpbank_end *end, uint8_t link, uint8_t octet, uint8_t *unit, size_t room, struct mtpbank_turned *turned)
+{
+	int32_t code = __real_mtpbank_turn(end, link, octet, unit, room, turned);
+	if (PLANTED == 15 && code == MTPBANK_OK && turned->unit)
+		turned->unit++;
+	return code;
+}
+
+/* 16: an octet behind the history's text is written; 17: a history goes on a line too late. */
+RIGHT(int32_t, history, mtpbank_end *end, size_t from, uint8_t *put, size_t room, struct mtpbank_told *told)
+{
+	int32_t code = __real_mtpbank_history(end, PLANTED == 17 && !from ? 1 : from, put, room, told);
+	if (PLANTED == 16 && code == MTPBANK_OK && told->octets < room)
+		put[told->octets] ^= 1;
+	return code;
+}

@@ -29,6 +29,9 @@ pub use texts::{text, Subcommand, Text};
 /// The most octets of a message.
 pub const LONGEST: usize = 273;
 
+/// The most octets of a unit, without check octets.
+const LONGEST_UNIT: usize = 276;
+
 /// Why a call wasn't done, by its number in `enum mtpbank_code`.
 #[derive(Clone, Copy, Debug, PartialEq, Eq)]
 pub struct Code(pub i32);
@@ -101,6 +104,26 @@ pub enum Command {
     Recover,
 }
 
+/// What an octet did that was heard.
+#[derive(Clone, Debug, PartialEq, Eq)]
+pub struct Turn {
+    /// The octet that goes out.
+    pub put: u8,
+    /// Whether a message for users was heard.
+    pub message: bool,
+    /// The unit that was appended to what is sent, without check octets, if one was.
+    pub unit: Option<Vec<u8>>,
+}
+
+/// A text of the history.
+#[derive(Clone, Debug, PartialEq, Eq)]
+pub struct History {
+    /// Its lines, each ended by LF.
+    pub text: String,
+    /// How many they are.
+    pub lines: usize,
+}
+
 /// One end of a set of links. It's closed when it's dropped, and may go to another thread.
 #[derive(Debug)]
 pub struct End {
@@ -168,6 +191,14 @@ impl End {
         (heard, done(code))
     }
 
+    /// An octet came on a link's line: what [`End::hear`] of it does, and the unit that its turn sends, for a capture.
+    pub fn turn(&mut self, link: u8, octet: u8) -> Result<Turn, Code> {
+        let (mut room, mut turned) = ([0; LONGEST_UNIT], raw::Turned::default());
+        done(raw::turn(&mut self.raw, link, octet, &mut room, &mut turned))?;
+        let unit = room.get(..turned.unit).filter(|octets| !octets.is_empty());
+        Ok(Turn { put: turned.put, message: turned.message == 1, unit: unit.map(<[u8]>::to_vec) })
+    }
+
     /// How a link stands.
     pub fn look(&mut self, link: u8) -> Result<Look, Code> {
         let mut look = Look::default();
@@ -205,6 +236,19 @@ impl End {
         let mut found = Found::default();
         done(raw::find(&mut self.raw, user, number, &mut found))?;
         Ok(found)
+    }
+
+    /// The text of the history since the last checkpoint from a line on: line 0 tells what the end was opened with, and
+    /// each other line is an entry.
+    pub fn history(&mut self, from: usize) -> Result<History, Code> {
+        let (mut room, mut told) = (Vec::new(), raw::Told::default());
+        let mut code = raw::history(&mut self.raw, from, &mut room, &mut told);
+        if code == Code::NO_ROOM.0 {
+            room.resize(told.octets, 0);
+            code = raw::history(&mut self.raw, from, &mut room, &mut told);
+        }
+        done(code)?;
+        Ok(History { text: String::from_utf8_lossy(&room).into_owned(), lines: told.lines })
     }
 
     /// The history begins anew.

@@ -71,6 +71,24 @@ pub struct Heard {
     pub messages: usize,
 }
 
+/// What an octet did that was heard: how many octets the unit has that was appended to what is sent, the octet that goes
+/// out, and 1 where a message for users was heard.
+#[repr(C)]
+#[derive(Default)]
+pub struct Turned {
+    pub unit: usize,
+    pub put: u8,
+    pub message: u8,
+}
+
+/// How much a text of the history is.
+#[repr(C)]
+#[derive(Clone, Copy, Default)]
+pub struct Told {
+    pub octets: usize,
+    pub lines: usize,
+}
+
 /// How a link stands; the words are those of `enum mtpbank_word` and so on.
 #[repr(C)]
 #[derive(Clone, Copy, Debug, Default, PartialEq, Eq)]
@@ -120,10 +138,12 @@ extern "C" {
         room: usize,
         heard: &mut Heard,
     ) -> i32;
+    fn mtpbank_turn(end: &mut End, link: u8, octet: u8, unit: *mut u8, room: usize, turned: &mut Turned) -> i32;
     fn mtpbank_look(end: &mut End, link: u8, look: &mut Look) -> i32;
     fn mtpbank_offer(end: &mut End, user: u16, message: *const u8, length: usize, number: &mut u64) -> i32;
     fn mtpbank_take(end: &mut End, user: u16, put: *mut u8, room: usize, length: &mut usize) -> i32;
     fn mtpbank_find(end: &mut End, user: u16, number: u64, found: &mut Found) -> i32;
+    fn mtpbank_history(end: &mut End, from: usize, put: *mut u8, room: usize, told: &mut Told) -> i32;
     fn mtpbank_checkpoint(end: &mut End) -> i32;
 }
 
@@ -172,6 +192,10 @@ pub fn hear(end: &mut End, link: u8, octets: &[u8], put: &mut [u8], heard: &mut 
     unsafe { mtpbank_hear(end, link, octets.as_ptr(), octets.len(), put.as_mut_ptr(), put.len(), heard) }
 }
 
+pub fn turn(end: &mut End, link: u8, octet: u8, unit: &mut [u8], turned: &mut Turned) -> i32 {
+    unsafe { mtpbank_turn(end, link, octet, unit.as_mut_ptr(), unit.len(), turned) }
+}
+
 pub fn look(end: &mut End, link: u8, look: &mut Look) -> i32 {
     unsafe { mtpbank_look(end, link, look) }
 }
@@ -186,6 +210,10 @@ pub fn take(end: &mut End, user: u16, put: &mut [u8], length: &mut usize) -> i32
 
 pub fn find(end: &mut End, user: u16, number: u64, found: &mut Found) -> i32 {
     unsafe { mtpbank_find(end, user, number, found) }
+}
+
+pub fn history(end: &mut End, from: usize, put: &mut [u8], told: &mut Told) -> i32 {
+    unsafe { mtpbank_history(end, from, put.as_mut_ptr(), put.len(), told) }
 }
 
 pub fn checkpoint(end: &mut End) -> i32 {

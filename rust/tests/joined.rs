@@ -79,6 +79,42 @@ fn what_is_not_there_is_refused() -> Result<(), Code> {
 }
 
 #[test]
+fn a_history_is_text() -> Result<(), Code> {
+    let mut end = End::open(&Set::basic(2, 2, 1), &Timers::USUAL, &Times::USUAL)?;
+    let first = "set links=2 method=basic a=2 b=1 sio=80\n";
+    let opened = end.history(0)?;
+    assert_eq!((opened.text.as_str(), opened.lines), (first, 1));
+    end.offer(9, &[0x85, 0x01, 0x80, 0x00, 0x30])?;
+    assert_eq!(end.take(7)?, None);
+    let entries = "user 9 offer 8501800030 -> accepted 0\nuser 7 take -> refused 9\n";
+    assert_eq!(end.history(0)?.text, format!("{first}{entries}"));
+    let from = end.history(opened.lines)?;
+    assert_eq!((from.text.as_str(), from.lines), (entries, 2));
+    assert_eq!(end.history(3)?.text, "");
+    end.checkpoint()?;
+    assert_eq!(end.history(0)?, opened);
+    Ok(())
+}
+
+#[test]
+fn a_turn_tells_its_unit() -> Result<(), Code> {
+    let mut end = End::open(&Set::basic(1, 1, 2), &Timers::USUAL, &Times::USUAL)?;
+    let mut twin = End::open(&Set::basic(1, 1, 2), &Timers::USUAL, &Times::USUAL)?;
+    let (mut put, mut units) = ([0; 64], Vec::new());
+    twin.hear(0, &[0x7e; 64], &mut put)?;
+    for expected in put {
+        let turn = end.turn(0, 0x7e)?;
+        assert_eq!((turn.put, turn.message), (expected, false));
+        units.extend(turn.unit);
+    }
+    // status indication "out of service" (Q.703 11.1.3)
+    assert!(units.len() > 5 && units.iter().all(|unit| unit == &[0xff, 0xff, 0x01, 0x03]));
+    assert_eq!(end.history(0)?, twin.history(0)?);
+    assert_eq!(end.turn(1, 0x7e), Err(Code::NO_SUCH_LINK));
+    Ok(())
+}
+
+#[test]
 fn an_end_goes_to_another_thread() -> Result<(), Code> {
     let mut end = End::open(&Set::basic(1, 1, 2), &Timers::USUAL, &Times::USUAL)?;
     end.activate(0)?;

@@ -4,7 +4,9 @@ use Rattle.end_calls.specs.Codes.{no_such_link, of_term}
 use Rattle.end_calls.specs.declared.fault.CallFault.{CallFault}
 use Rattle.end_calls.specs.declared.hearing.HeardValues.{HeardValues}
 use Rattle.l2_bits.specs.LineBits.{bits_of}
+use Rattle.l2_units.specs.declared.unit.Unit.{Unit as SignalUnit}
 use Rattle.link_term.specs.declared.fault.TermFault.{TermFault}
+use Rattle.link_term.specs.declared.tap.LastUnit.{LastUnit}
 use Rattle.term_bench.specs.declared.turn.Turn.{Turn}
 use Rattle.term_managed.specs.Ends.{ManagedState}
 use Rattle.term_managed.specs.Turns.{HeardTurn, Hears, HearsBroken}
@@ -24,6 +26,10 @@ pub record HearsSome (link : ℕ) (octets : List ℕ) (fault : TermFault) (old :
   pub is_next : slice_get octets (length heard) ≡ Some octet
   pub before : HearsAll link (take (length heard) octets) old heard between
   pub broken : HearsBroken link (bits_of 8 octet) fault between new
+
+-- what a tap tells that keeps the last unit
+abbrev pub keeps : LastUnit → SignalUnit → LastUnit → Type 0
+keeps before unit after = after.unit ≡ Some unit
 
 -- WHAT THE TURNS PUT, and in how many of them messages for users were heard
 abbrev pub puts : List HeardTurn → List ℕ

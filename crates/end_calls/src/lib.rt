@@ -9,8 +9,10 @@
 //! | [`open`] | makes an end of these settings |
 //! | [`command`], [`activate`], [`deactivate`] | tell a link's terminal, or its management |
 //! | [`hear`] | hears octets that came on a link's line: as many are put |
+//! | [`turn`] | hears one octet, and tells the unit that its turn sends |
 //! | [`offer`], [`take`], [`find`] | a user's calls |
 //! | [`look`] | tells how a link stands |
+//! | [`history`] | tells the history as text |
 //! | [`checkpoint`] | lets the history begin anew |
 #![tactic(auto)]
 
@@ -19,10 +21,14 @@ mod fault;
 mod hearing;
 mod links;
 mod opening;
+mod telling;
+mod turning;
 mod users;
 
 pub use fault::CallFault;
 pub use hearing::{HeardValues, hear};
 pub use links::{LookValues, activate, checkpoint, command, deactivate, look};
 pub use opening::{SetValues, TimeValues, TimerValues, open};
+pub use telling::{ToldValues, history};
+pub use turning::{TurnedValues, turn};
 pub use users::{FoundValues, find, offer, take};

@@ -100,7 +100,7 @@ fn taken(answer: Answer, room: &mut [u8]) -> Result<usize, CallFault>
 }
 
 /// Puts octets to the front of their room; how many they are.
-fn put(octets: &[u8], room: &mut [u8]) -> usize
+pub(crate) fn put(octets: &[u8], room: &mut [u8]) -> usize
     requires { length octets.now ≤ length room.old }
     ensures value { result ≡ length octets.now }
     ensures room { room.new ≡ octets.now ++ drop (length octets.now) room.old }

@@ -9,3 +9,5 @@ mod joined;
 mod refused;
 #[cfg(test)]
 mod settings;
+#[cfg(test)]
+mod told;

@@ -11,6 +11,8 @@ ghost use Rattle.end_calls.specs.Codes.{fault_number};
 ghost use Rattle.end_calls.specs.Hearing.{IsHeard};
 ghost use Rattle.end_calls.specs.Looking.{Activated, Commanded, Deactivated, IsCheckpoint, IsLook};
 ghost use Rattle.end_calls.specs.Opening.{Opens, first_refusal};
+ghost use Rattle.end_calls.specs.Telling.{TellsHistory};
+ghost use Rattle.end_calls.specs.Turning.{IsTurned};
 ghost use Rattle.end_calls.specs.declared.fault.CallFault.{CallFault as Fault};
 ghost use Rattle.end_calls.specs.declared.fault.CallFault.TheVariants.{NoMemory};
 ghost use Rattle.end_calls.specs.declared.links.LookValues.{LookValues as Looked};
@@ -21,8 +23,9 @@ mod held;
 mod parts;
 
 use end_calls::{
-    CallFault, FoundValues, HeardValues, LookValues, SetValues, TimeValues, TimerValues, activate,
-    checkpoint, command, deactivate, find, hear, look, offer, open, take,
+    CallFault, FoundValues, HeardValues, LookValues, SetValues, TimeValues, TimerValues,
+    ToldValues, TurnedValues, activate, checkpoint, command, deactivate, find, hear, history, look,
+    offer, open, take, turn,
 };
 use held::End;
 use std::alloc::Global;
@@ -120,6 +123,21 @@ pub extern "C" fn mtpbank_hear(
     code_of(hear(end.bench(), link, octets, put, heard))
 }
 
+/// An octet came on a link's line, and the unit that its turn sends is told ([`turn`]).
+#[unsafe(no_mangle)]
+pub extern "C" fn mtpbank_turn(
+    end: &mut End,
+    link: u8,
+    octet: u8,
+    unit: &mut [u8],
+    turned: &mut TurnedValues,
+) -> i32
+    ensures { (told : Result (Unit {0}) Fault)
+        × IsTurned link octet unit.old turned.old end.old.bench told unit.new turned.new end.new.bench × (result ≡ code_of told) }
+{
+    code_of(turn(end.bench(), link, octet, unit, turned))
+}
+
 /// How a link stands ([`look`]).
 #[unsafe(no_mangle)]
 pub extern "C" fn mtpbank_look(end: &mut End, link: u8, values: &mut LookValues) -> i32
@@ -190,6 +208,22 @@ pub extern "C" fn mtpbank_find(
         }
         Err(fault) => code_of(Err(fault)),
     }
+}
+
+/// The text of the history from a line on ([`history`]).
+#[unsafe(no_mangle)]
+pub extern "C" fn mtpbank_history(
+    alloc: Global,
+    end: &mut End,
+    from: usize,
+    put: &mut [u8],
+    told: &mut ToldValues,
+) -> i32
+    ensures same { end.new.bench ≡ end.old.bench }
+    ensures tells { (ended : Result (Unit {0}) Fault)
+        × TellsHistory from end.old.bench put.old told.old ended put.new told.new × (result ≡ code_of ended) }
+{
+    code_of(history(alloc, end.bench(), from, put, told))
 }
 
 /// The history begins anew ([`checkpoint`]).
