@@ -32,6 +32,7 @@ mod forgetting;
 mod held;
 mod making;
 mod opening;
+mod places;
 mod seat;
 mod share;
 mod stepping;
